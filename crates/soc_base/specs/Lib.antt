@@ -1,0 +1,4 @@
+pub mod Time
+pub mod Steps
+pub mod Text
+pub mod Port

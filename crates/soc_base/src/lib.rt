@@ -1,0 +1,39 @@
+//! The words that every layer of the emulator shares: slots and cycles, numbers as text, labels,
+//! flits, and small containers that contracts see as lists.
+//!
+//! `specs/` has the meanings that the crates above cite: `Time` (slots, instances, when a part
+//! runs), `Steps` (a state after so many steps), `Text` (numbers as text, and back) and `Port`
+//! (a port of a network interface).
+#![tactic(auto)]
+
+/// Why a part of an application ended by a fault.
+mod cause;
+/// One word and its credits on a link.
+mod flit;
+/// A `Vec` and a `String` that contracts see as lists.
+mod items;
+/// The name of one load command.
+mod label;
+/// Lines of printed text.
+mod line;
+/// Want of memory.
+mod memory;
+/// Numbers read from text.
+mod number;
+/// A part of a tile's memory, and the widths of its accesses.
+mod region;
+/// Slots of cycles.
+mod slot;
+/// The words of a command line.
+mod words;
+
+pub use cause::Cause;
+pub use flit::Flit;
+pub use items::{Items, Text};
+pub use label::Label;
+pub use line::{Line, push_hex, push_number};
+pub use memory::NoMemory;
+pub use number::{NumFault, read_number};
+pub use region::{Region, Width};
+pub use slot::slot_up;
+pub use words::Words;
