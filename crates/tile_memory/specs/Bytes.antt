@@ -4,15 +4,9 @@ use Rattle.std.specs.List.{flat_map}
 use Rattle.byteorder.specs.Endian.{little_number, little_bytes}
 use Rattle.soc_base.specs.declared.region.Region.{Region}
 use Rattle.soc_base.specs.declared.region.Width.{Width}
-use Rattle.soc_base.specs.declared.region.Width.TheVariants.{Byte, Half, Word}
+use Rattle.soc_base.specs.Widths.{width_bytes}
 use Rattle.tile_memory.specs.declared.memory.MemFault.{MemFault}
 use Rattle.tile_memory.specs.declared.memory.MemFault.TheVariants.{Align, Outside}
-
--- the number of bytes that a load or a store moves
-abbrev pub width_bytes : Width → ℕ
-width_bytes Byte = 1
-width_bytes Half = 2
-width_bytes Word = 4
 
 abbrev pub IsInside : List ℕ → Region → Type 0
 IsInside memory region = region.base + region.len ≤ length memory

@@ -2,7 +2,8 @@
 
 ghost use Rattle.std.specs.Prelude.{◌≡◌, ◌+◌, ◌*◌, ◌%◌, ◌^◌, ◌<◌, ◌≤◌, ◌++◌, length, drop, IfOk, OnOk, OnErr};
 ghost use Rattle.byteorder.specs.Endian.{little_number, little_bytes};
-ghost use Rattle.tile_memory.specs.Bytes.{width_bytes, refusal_of, filled_bytes, load_of, store_answer_of, stored_bytes};
+ghost use Rattle.soc_base.specs.Widths.{width_bytes};
+ghost use Rattle.tile_memory.specs.Bytes.{refusal_of, filled_bytes, load_of, store_answer_of, stored_bytes};
 
 use crate::memory::MemFault;
 use byteorder::{ByteOrder, LittleEndian};

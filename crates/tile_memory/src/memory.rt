@@ -1,7 +1,8 @@
 //! The memory of one tile: loads and stores in a region, and the filling of a region with an image.
 
 ghost use Rattle.std.specs.Prelude.{◌≡◌, ◌+◌, ◌*◌, ◌%◌, ◌^◌, ◌<◌, ◌≤◌, length, replicate, IfOk, OnOk, OnErr};
-ghost use Rattle.tile_memory.specs.Bytes.{width_bytes, IsInside, region_bytes, with_region, filled_bytes, load_of, store_answer_of, stored_bytes, word_of};
+ghost use Rattle.soc_base.specs.Widths.{width_bytes};
+ghost use Rattle.tile_memory.specs.Bytes.{IsInside, region_bytes, with_region, filled_bytes, load_of, store_answer_of, stored_bytes, word_of};
 
 use crate::access;
 use byteorder::{ByteOrder, LittleEndian};
