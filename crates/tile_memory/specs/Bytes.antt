@@ -1,5 +1,5 @@
 -- A tile's memory as the list of its bytes, and the regions that parts see. Numbers are little-endian.
-use Rattle.std.specs.Prelude.{◌≡◌, ℕ, Bool, ◌+◌, ◌-◌, ◌*◌, ◌%◌, ◌≤◌, ◌==◌, List, ◌++◌, length, take, drop, replicate, nat_lt, not, if◌then◌else◌, Option, Some, None, Result, Ok, Err}
+use Rattle.std.specs.Prelude.{◌≡◌, ℕ, Bool, ◌+◌, ◌-◌, ◌*◌, ◌%◌, ◌≤◌, ◌==◌, List, ◌++◌, length, take, drop, replicate, nat_lt, nat_le, not, if◌then◌else◌, Option, Some, None, Result, Ok, Err}
 use Rattle.std.specs.List.{flat_map}
 use Rattle.byteorder.specs.Endian.{little_number, little_bytes}
 use Rattle.soc_base.specs.declared.region.Region.{Region}
@@ -35,6 +35,11 @@ answered (Some fault) value = Err fault
 -- what a load from a region answers: the number at its address
 abbrev pub load_of : List ℕ → ℕ → Width → Result ℕ MemFault
 load_of bytes addr width = answered (refusal_of (length bytes) addr width) (little_number (width_bytes width) (drop addr bytes))
+
+-- the word at an address of a region, whatever the address is a multiple of; none where its four bytes
+-- aren't all there
+abbrev pub fetch_of : List ℕ → ℕ → Option ℕ
+fetch_of bytes addr = if nat_le (addr + 4) (length bytes) then Some (little_number 4 (drop addr bytes)) else None
 
 abbrev pub store_answer_of : List ℕ → ℕ → Width → Result Unit MemFault
 store_answer_of bytes addr width = answered (refusal_of (length bytes) addr width) tt

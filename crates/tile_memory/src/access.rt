@@ -3,7 +3,7 @@
 ghost use Rattle.std.specs.Prelude.{◌≡◌, ◌+◌, ◌*◌, ◌%◌, ◌^◌, ◌<◌, ◌≤◌, ◌++◌, length, drop, IfOk, OnOk, OnErr};
 ghost use Rattle.byteorder.specs.Endian.{little_number, little_bytes};
 ghost use Rattle.soc_base.specs.Widths.{width_bytes};
-ghost use Rattle.tile_memory.specs.Bytes.{refusal_of, filled_bytes, load_of, store_answer_of, stored_bytes};
+ghost use Rattle.tile_memory.specs.Bytes.{refusal_of, filled_bytes, load_of, fetch_of, store_answer_of, stored_bytes};
 
 use crate::memory::MemFault;
 use byteorder::{ByteOrder, LittleEndian};
@@ -71,6 +71,18 @@ pub fn load(bytes: &[u8], addr: u32, width: Width) -> Result<u32, MemFault>
         return Err(fault);
     }
     Ok(number_in(&bytes[addr..], width))
+}
+
+/// Reads the word at an address of a region, whatever the address is a multiple of. None exactly where
+/// its four bytes aren't all in the region.
+pub fn fetch(bytes: &[u8], addr: u32) -> Option<u32>
+    ensures { result ≡ fetch_of bytes.now addr }
+{
+    let addr = addr as usize;
+    if addr + 4 > bytes.len() {
+        return None;
+    }
+    Some(LittleEndian::read_u32(&bytes[addr..]))
 }
 
 /// Stores the low bytes of a value at an address of a region. Refuses as `load` does, and then changes

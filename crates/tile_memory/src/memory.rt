@@ -2,7 +2,7 @@
 
 ghost use Rattle.std.specs.Prelude.{◌≡◌, ◌+◌, ◌*◌, ◌%◌, ◌^◌, ◌<◌, ◌≤◌, length, replicate, IfOk, OnOk, OnErr};
 ghost use Rattle.soc_base.specs.Widths.{width_bytes};
-ghost use Rattle.tile_memory.specs.Bytes.{IsInside, region_bytes, with_region, filled_bytes, load_of, store_answer_of, stored_bytes, word_of};
+ghost use Rattle.tile_memory.specs.Bytes.{IsInside, region_bytes, with_region, filled_bytes, load_of, fetch_of, store_answer_of, stored_bytes, word_of};
 
 use crate::access;
 use byteorder::{ByteOrder, LittleEndian};
@@ -76,6 +76,16 @@ impl TileMemory {
     {
         let (base, end) = bounds(region);
         access::load(&self.bytes[base..end], addr, width)
+    }
+
+    /// Reads the word at an address of a region, whatever the address is a multiple of. None exactly
+    /// where its four bytes aren't all in the region.
+    pub fn fetch(&self, region: Region, addr: u32) -> Option<u32>
+        requires { IsInside self.now region }
+        ensures { result ≡ fetch_of (region_bytes self.now region) addr }
+    {
+        let (base, end) = bounds(region);
+        access::fetch(&self.bytes[base..end], addr)
     }
 
     /// Stores the low bytes of a value at an address of a region, and changes no other byte. Refuses
