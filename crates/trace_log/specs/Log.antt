@@ -1,8 +1,8 @@
 -- The log of one part.
-use Rattle.std.specs.Prelude.{ℕ, ◌+◌, ◌-◌, ◌^◌, List, [], ◌∷◌, ◌++◌, length, min, nat_lt, if◌then◌else◌}
+use Rattle.std.specs.Prelude.{ℕ, Bool, true, false, ◌+◌, ◌-◌, ◌^◌, List, [], ◌∷◌, ◌++◌, length, min, nat_lt, if◌then◌else◌}
 use Rattle.trace_log.specs.declared.row.TraceRow.{TraceRow}
 use Rattle.trace_log.specs.declared.row.PartEnd.{PartEnd}
-use Rattle.trace_log.specs.declared.row.PartEnd.TheVariants.{Live}
+use Rattle.trace_log.specs.declared.row.PartEnd.TheVariants.{Live, Halt, Fault}
 
 -- the rows that were kept, the oldest first; for how many there is room; how many were cut, a count
 -- that stays at the greatest u64 once there; and how the part stands
@@ -25,3 +25,9 @@ logged row log =
 -- the part ended
 abbrev pub finished : PartEnd → Log → Log
 finished end log = record log { end = end }
+
+-- whether a part has ended
+abbrev pub has_ended : PartEnd → Bool
+has_ended Live = false
+has_ended (Halt code cycle) = true
+has_ended (Fault cause cycle) = true

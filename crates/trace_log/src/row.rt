@@ -75,3 +75,17 @@ pub enum PartEnd {
         cycle: u64,
     },
 }
+
+impl PartEnd {
+    ghost use Rattle.trace_log.specs.Log.{has_ended};
+
+    /// Answers whether the part has ended.
+    pub fn has_ended(self) -> bool
+        ensures { result ≡ has_ended self }
+    {
+        match self {
+            PartEnd::Live => false,
+            PartEnd::Halt { .. } | PartEnd::Fault { .. } => true,
+        }
+    }
+}
