@@ -1,18 +1,14 @@
 -- Accesses of a bus: how much each load and store moves, and what a bus may answer.
-use Rattle.std.specs.Prelude.{◌≡◌, ℕ, ◌^◌, ◌<◌}
+use Rattle.std.specs.Prelude.{◌≡◌, ℕ, ◌*◌, ◌^◌, ◌<◌}
 use Rattle.soc_base.specs.declared.region.Width.{Width}
 use Rattle.soc_base.specs.declared.region.Width.TheVariants.{Byte, Half, Word}
+use Rattle.soc_base.specs.Widths.{width_bytes}
 use Rattle.rv_core.specs.declared.instr.LoadOp.{LoadOp}
 use Rattle.rv_core.specs.declared.instr.LoadOp.TheVariants.{Lb, Lh, Lw, Lbu, Lhu}
 use Rattle.rv_core.specs.declared.instr.StoreOp.{StoreOp}
 use Rattle.rv_core.specs.declared.instr.StoreOp.TheVariants.{Sb, Sh, Sw}
 use Rattle.rv_core.specs.declared.bus.Answer.{Answer}
 use Rattle.rv_core.specs.declared.bus.Answer.TheVariants.{Done, Stall, Fault}
-
-abbrev pub bits_of_width : Width → ℕ
-bits_of_width Byte = 8
-bits_of_width Half = 16
-bits_of_width Word = 32
 
 abbrev pub load_width : LoadOp → Width
 load_width Lb = Byte
@@ -28,7 +24,7 @@ store_width Sw = Word
 
 -- a load that is done answers a value of its width: below 2 ^ 8, 2 ^ 16 or 2 ^ 32
 abbrev pub IsLoaded : Width → Answer → Type 0
-IsLoaded width (Done value) = value < 2 ^ bits_of_width width
+IsLoaded width (Done value) = value < 2 ^ (8 * width_bytes width)
 IsLoaded width Stall = Unit {0}
 IsLoaded width (Fault cause) = Unit {0}
 

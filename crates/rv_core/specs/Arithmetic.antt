@@ -6,6 +6,8 @@ use Rattle.rv_core.specs.declared.instr.BranchOp.{BranchOp}
 use Rattle.rv_core.specs.declared.instr.BranchOp.TheVariants.{Beq, Bne, Blt, Bge, Bltu, Bgeu}
 use Rattle.rv_core.specs.declared.instr.LoadOp.{LoadOp}
 use Rattle.rv_core.specs.declared.instr.LoadOp.TheVariants.{Lb, Lh, Lw, Lbu, Lhu}
+use Rattle.rv_core.specs.declared.instr.StoreOp.{StoreOp}
+use Rattle.rv_core.specs.declared.instr.StoreOp.TheVariants.{Sb, Sh, Sw}
 use Rattle.rv_core.specs.declared.instr.ImmOp.{ImmOp}
 use Rattle.rv_core.specs.declared.instr.ImmOp.TheVariants.{Addi, Slti, Sltiu, Xori, Ori, Andi, Slli, Srli, Srai}
 use Rattle.rv_core.specs.declared.instr.RegOp.{RegOp}
@@ -113,3 +115,9 @@ loaded_value Lh n = word_of (cast_signed w16 n)
 loaded_value Lw n = n
 loaded_value Lbu n = n
 loaded_value Lhu n = n
+
+-- what a store writes of a register's value
+abbrev pub stored_value : StoreOp → ℕ → ℕ
+stored_value Sb value = value % 2 ^ 8
+stored_value Sh value = value % 2 ^ 16
+stored_value Sw value = value

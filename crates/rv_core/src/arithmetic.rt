@@ -1,12 +1,13 @@
 //! What the instructions compute, on words of 32 bits (RISC-V Unprivileged ISA, "Integer
 //! Computational Instructions", "Multiplication Operations", "Division Operations").
 
-ghost use Rattle.std.specs.Prelude.{◌≡◌, ◌<◌, ◌^◌, ◌/◌, ◌*ℤ◌};
+ghost use Rattle.std.specs.Prelude.{◌≡◌, ◌<◌, ◌^◌, ◌*◌, ◌/◌, ◌*ℤ◌};
 ghost use Rattle.std.specs.Int.{w64, cast_unsigned};
-ghost use Rattle.rv_core.specs.Arithmetic.{shifted_left, shifted_right, shifted_right_signed, high_product_mixed, quotient_signed, quotient_unsigned, remainder_signed, remainder_unsigned, reg_value, imm_value, is_taken, loaded_value};
-ghost use Rattle.rv_core.specs.Access.{bits_of_width, load_width};
+ghost use Rattle.rv_core.specs.Arithmetic.{shifted_left, shifted_right, shifted_right_signed, high_product_mixed, quotient_signed, quotient_unsigned, remainder_signed, remainder_unsigned, reg_value, imm_value, is_taken, loaded_value, stored_value};
+ghost use Rattle.soc_base.specs.Widths.{width_bytes};
+ghost use Rattle.rv_core.specs.Access.{load_width, store_width};
 
-use crate::instr::{BranchOp, ImmOp, LoadOp, RegOp};
+use crate::instr::{BranchOp, ImmOp, LoadOp, RegOp, StoreOp};
 use soc_base::Width;
 
 // A shift to the left by the low five bits of `b`.
@@ -128,17 +129,19 @@ pub(crate) fn immediate_result(op: ImmOp, a: u32, b: u32) -> u32
     }
 }
 
-/// Answers whether a branch is taken, by the values of its two registers.
-pub(crate) fn is_branch_taken(op: BranchOp, a: u32, b: u32) -> bool
-    ensures { result ≡ is_taken op a b }
-{
-    match op {
-        BranchOp::Beq => a == b,
-        BranchOp::Bne => a != b,
-        BranchOp::Blt => a.cast_signed() < b.cast_signed(),
-        BranchOp::Bge => a.cast_signed() >= b.cast_signed(),
-        BranchOp::Bltu => a < b,
-        BranchOp::Bgeu => a >= b,
+impl BranchOp {
+    /// Answers whether the branch is taken, where its registers hold `a` and `b`.
+    pub fn is_taken(self, a: u32, b: u32) -> bool
+        ensures { result ≡ is_taken self a b }
+    {
+        match self {
+            BranchOp::Beq => a == b,
+            BranchOp::Bne => a != b,
+            BranchOp::Blt => a.cast_signed() < b.cast_signed(),
+            BranchOp::Bge => a.cast_signed() >= b.cast_signed(),
+            BranchOp::Bltu => a < b,
+            BranchOp::Bgeu => a >= b,
+        }
     }
 }
 
@@ -153,9 +156,31 @@ pub(crate) fn width_of_load(op: LoadOp) -> Width
     }
 }
 
+/// Answers how much a store writes.
+pub(crate) fn width_of_store(op: StoreOp) -> Width
+    ensures { result ≡ store_width op }
+{
+    match op {
+        StoreOp::Sb => Width::Byte,
+        StoreOp::Sh => Width::Half,
+        StoreOp::Sw => Width::Word,
+    }
+}
+
+/// Answers the part of a register's value that a store writes.
+pub(crate) fn stored(op: StoreOp, value: u32) -> u32
+    ensures { result ≡ stored_value op value }
+{
+    match op {
+        StoreOp::Sb => value % 0x100,
+        StoreOp::Sh => value % 0x1_0000,
+        StoreOp::Sw => value,
+    }
+}
+
 /// Answers what a load gives for the value that it reads, which is within the load's width.
 pub(crate) fn extended(op: LoadOp, value: u32) -> u32
-    requires { value < 2 ^ bits_of_width (load_width op) }
+    requires { value < 2 ^ (8 * width_bytes (load_width op)) }
     ensures { result ≡ loaded_value op value }
 {
     match op {

@@ -26,10 +26,11 @@ pub trait Bus {
 
     ghost state: { Self → State };
 
-    /// The places that the bus borrows from. An impl that borrows nothing takes `Unit {0}`.
-    ghost Loans: { Type 0 };
+    /// What no access changes: the places that the bus borrows from, and whatever else it holds that
+    /// no access reaches. An impl without either takes `Unit {0}`.
+    ghost Kept: { Type 0 };
 
-    ghost loans: { Self → Loans };
+    ghost kept: { Self → Kept };
 
     ghost fetch_at: { State → ℕ → Option ℕ };
 
@@ -48,7 +49,7 @@ pub trait Bus {
         ensures state { state self.new ≡ (load_at (state self.old) addr width).1 }
         ensures bound { IsLoaded width result }
         ensures refused { IsKeptUnlessDone result (state self.old) (state self.new) }
-        ensures loans { loans self.new ≡ loans self.old };
+        ensures kept { kept self.new ≡ kept self.old };
 
     /// Stores a value, which is within the width, at an address, which needs not be a multiple of it.
     fn store(&mut self, addr: u32, width: Width, value: u32) -> Answer
@@ -56,5 +57,5 @@ pub trait Bus {
         ensures state { state self.new ≡ (store_at (state self.old) addr width value).1 }
         ensures bound { IsStored result }
         ensures refused { IsKeptUnlessDone result (state self.old) (state self.new) }
-        ensures loans { loans self.new ≡ loans self.old };
+        ensures kept { kept self.new ≡ kept self.old };
 }

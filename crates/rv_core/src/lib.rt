@@ -15,7 +15,7 @@ mod decoding;
 /// Words from instructions.
 //mod encoding;
 /// One step of a hart.
-//mod execution;
+mod execution;
 /// The fields of a word.
 mod fields;
 /// The constants within instructions.
@@ -28,9 +28,9 @@ mod opcode;
 mod regs;
 
 pub use bus::{Answer, Bus};
-//pub use decoding::decode;
+pub use decoding::decode;
 //pub use encoding::encode;
-//pub use execution::{Outcome, execute};
+pub use execution::{Outcome, execute};
 pub use instr::{BranchOp, ImmOp, Instr, LoadOp, RegOp, StoreOp};
 pub use regs::Regs;
 pub use soc_base::{Cause, Width};

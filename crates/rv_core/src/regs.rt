@@ -3,6 +3,7 @@
 
 ghost use Rattle.std.specs.Prelude.{◌≡◌, ◌<◌};
 ghost use Rattle.rv_core.specs.Registers.{register_at, with_register, fresh_registers};
+ghost use Rattle.rv_core.specs.Effect.{address_of};
 
 use std::marker::Model;
 
@@ -52,5 +53,14 @@ impl Regs {
         if register != 0 {
             self.x[usize::from(register)] = value;
         }
+    }
+
+    /// Answers the address of a load or a store: a register's value and an immediate, whose sum
+    /// wraps at 32 bits.
+    pub fn address(&self, rs1: u8, imm: i32) -> u32
+        requires { rs1 < 32 }
+        ensures { result ≡ address_of self.now rs1 imm }
+    {
+        self.read(rs1).wrapping_add(imm.cast_unsigned())
     }
 }
