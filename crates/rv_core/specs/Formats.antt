@@ -15,7 +15,8 @@ fields_at word = record {
   funct3 = bits word 14 12;
   rs1 = bits word 19 15;
   rs2 = bits word 24 20;
-  funct7 = bits word 31 25 }
+  funct7 = bits word 31 25;
+}
 
 -- the word that has these fields
 abbrev pub pack : Fields → ℕ

@@ -59,7 +59,9 @@ fn divided_signed(a: u32, b: u32) -> u32
     if b == 0 {
         return u32::MAX;
     }
-    a.cast_signed().wrapping_div(b.cast_signed()).cast_unsigned()
+    a.cast_signed()
+        .wrapping_div(b.cast_signed())
+        .cast_unsigned()
 }
 
 // The quotient of unsigned numbers.
@@ -76,7 +78,9 @@ fn left_over_signed(a: u32, b: u32) -> u32
     if b == 0 {
         return a;
     }
-    a.cast_signed().wrapping_rem(b.cast_signed()).cast_unsigned()
+    a.cast_signed()
+        .wrapping_rem(b.cast_signed())
+        .cast_unsigned()
 }
 
 // The remainder of unsigned numbers.

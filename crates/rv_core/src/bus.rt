@@ -51,7 +51,7 @@ pub trait Bus {
         ensures refused { IsKeptUnlessDone result (state self.old) (state self.new) }
         ensures kept { kept self.new ≡ kept self.old };
 
-    /// Stores a value, which is within the width, at an address, which needs not be a multiple of it.
+    /// Stores the low bytes of a value at an address, which needs not be a multiple of the width.
     fn store(&mut self, addr: u32, width: Width, value: u32) -> Answer
         ensures answer { result ≡ (store_at (state self.old) addr width value).0 }
         ensures state { state self.new ≡ (store_at (state self.old) addr width value).1 }

@@ -10,9 +10,7 @@ ghost use Rattle.rv_core.specs.Decoding.{branch_op_at, load_op_at, store_op_at, 
 use crate::fields::Fields;
 use crate::immediate::{branch_distance, immediate, jump_distance, rest, store_offset, upper};
 use crate::instr::{BranchOp, ImmOp, Instr, LoadOp, RegOp, StoreOp};
-use crate::opcode::{
-    AUIPC, BRANCH, JAL, JALR, LOAD, LUI, MISC_MEM, OP, OP_IMM, STORE, SYSTEM,
-};
+use crate::opcode::{AUIPC, BRANCH, JAL, JALR, LOAD, LUI, MISC_MEM, OP, OP_IMM, STORE, SYSTEM};
 
 // The branch that a funct3 names.
 fn branch_op(funct3: u8) -> Option<BranchOp>

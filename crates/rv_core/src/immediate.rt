@@ -104,7 +104,13 @@ pub(crate) fn jump_distance(f: &Fields) -> i32
     let bit_11 = u32::from(f.rs2 % 2);
     let bits_10_to_5 = u32::from(f.funct7 % 64);
     let bits_4_to_1 = u32::from(f.rs2 / 2);
-    signed_of_21((bit_20 << 20) + (bits_19_to_12 << 12) + (bit_11 << 11) + (bits_10_to_5 << 5) + (bits_4_to_1 << 1))
+    signed_of_21(
+        (bit_20 << 20)
+            + (bits_19_to_12 << 12)
+            + (bit_11 << 11)
+            + (bits_10_to_5 << 5)
+            + (bits_4_to_1 << 1),
+    )
 }
 
 /// Answers a FENCE's word without its opcode and funct3.

@@ -13,11 +13,13 @@ mod bus;
 /// Instructions from words.
 mod decoding;
 /// Words from instructions.
-//mod encoding;
+mod encoding;
 /// One step of a hart.
 mod execution;
 /// The fields of a word.
 mod fields;
+/// The fields of an instruction, by its format.
+mod format;
 /// The constants within instructions.
 mod immediate;
 /// The instructions.
@@ -29,7 +31,7 @@ mod regs;
 
 pub use bus::{Answer, Bus};
 pub use decoding::decode;
-//pub use encoding::encode;
+pub use encoding::encode;
 pub use execution::{Outcome, execute};
 pub use instr::{BranchOp, ImmOp, Instr, LoadOp, RegOp, StoreOp};
 pub use regs::Regs;
