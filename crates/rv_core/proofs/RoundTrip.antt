@@ -1,5 +1,5 @@
 -- Decoding gives back the instruction that was encoded.
-use Rattle.std.proofs.Common.{◌≡◌, ℕ, ◌+◌, ◌*◌, ◌/◌, ◌%◌, ◌^◌, ◌<◌, ◌==◌, ◌||◌, true, false, ℤ, pos, Option, Some, refl, ap, ◌∙◌, lit<, arith}
+use Rattle.std.proofs.Common.{◌≡◌, ℕ, ◌<◌, ◌==◌, ◌||◌, true, false, ℤ, pos, Some, refl, ap, ◌∙◌, lit<, arith}
 use Rattle.std.specs.Option.{option_map}
 use Rattle.std.proofs.lemmas.Int.{ints}
 use Rattle.rv_core.specs.declared.fields.Fields.{Fields}

@@ -1,5 +1,5 @@
 -- Accesses of a bus: how much each load and store moves, and what a bus may answer.
-use Rattle.std.specs.Prelude.{◌≡◌, ℕ, ◌*◌, ◌^◌, ◌<◌}
+use Rattle.std.specs.Prelude.{◌≡◌, ◌*◌, ◌^◌, ◌<◌}
 use Rattle.soc_base.specs.declared.region.Width.{Width}
 use Rattle.soc_base.specs.declared.region.Width.TheVariants.{Byte, Half, Word}
 use Rattle.soc_base.specs.Widths.{width_bytes}

@@ -2,7 +2,6 @@
 -- (`request_of`); the bus answers; the rest follows from the registers, the instruction and that
 -- answer (`effect_of`). So the same two functions say what an instruction does on any bus.
 use Rattle.std.specs.Prelude.{ℕ, Bool, ◌*◌, ◌/◌, ◌%◌, ◌==◌, ℤ, if◌then◌else◌}
-use Rattle.soc_base.specs.declared.cause.Cause.{Cause}
 use Rattle.soc_base.specs.declared.cause.Cause.TheVariants.{Target, Break}
 use Rattle.soc_base.specs.declared.region.Width.{Width}
 use Rattle.rv_core.specs.declared.instr.Instr.{Instr}

@@ -29,6 +29,13 @@ mod opcode;
 /// The registers of a hart.
 mod regs;
 
+/// Steps from outside.
+#[cfg(test)]
+mod step_tests;
+/// Words from outside.
+#[cfg(test)]
+mod word_tests;
+
 pub use bus::{Answer, Bus};
 pub use decoding::decode;
 pub use encoding::encode;

@@ -37,10 +37,11 @@ impl Regs {
         Regs { pc, x: [0; 32] }
     }
 
-    /// Answers the value of a register, numbered from 0 to 31.
+    /// Answers the value of a register, numbered from 0 to 31. That of x0 is 0.
     pub fn read(&self, register: u8) -> u32
         requires { register < 32 }
-        ensures { result ≡ register_at self.now register }
+        ensures value { result ≡ register_at self.now register }
+        ensures zero { register ≡ 0 → result ≡ 0 }
     {
         self.x[usize::from(register)]
     }

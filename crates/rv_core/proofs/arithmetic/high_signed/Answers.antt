@@ -1,4 +1,4 @@
-use Rattle.std.proofs.Common.{◌≡◌, ◌^◌, ◌*ℤ◌, FitsSigned, arith, lit<}
+use Rattle.std.proofs.Common.{◌^◌, ◌*ℤ◌, FitsSigned, arith, lit<}
 use Rattle.std.specs.Int.{w64}
 use Rattle.std.proofs.lemmas.Int.{ints, to_z-of_z, fits_signed_mul, fits_signed_from_abs}
 use Rattle.rv_core.proofs.arithmetic.high_signed.Goals as goal
