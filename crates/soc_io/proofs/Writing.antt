@@ -1,11 +1,10 @@
 -- How what was printed goes on.
-use Rattle.std.proofs.Common.{◌≡◌, ℕ, ◌≤◌, ◌<◌, ◌+◌, ◌-◌, ◌^◌, Bool, true, false, List, [], ◌∷◌, ◌++◌, take, drop, length, get_or, Option, Some, None, Result, Ok, Err, is_err, if◌then◌else◌, append-nil, append_assoc, refl, sym, subst, ◌∙◌, ap, arith}
+use Rattle.std.proofs.Common.{◌≡◌, ℕ, ◌≤◌, ◌<◌, ◌+◌, Bool, true, false, List, [], ◌∷◌, ◌++◌, take, drop, length, get_or, Option, Some, None, Result, Ok, Err, is_err, if◌then◌else◌, append-nil, append_assoc, refl, sym, subst, ◌∙◌, ap, arith}
 use Rattle.std.proofs.lemmas.List.{take-append-drop, take_all}
 use Rattle.std.proofs.lemmas.Grind.{take_at_read, flat_map-append}
 use Rattle.std.specs.List.{flat_map}
 use Rattle.soc_io.specs.declared.sink.SinkFault.{SinkFault}
 use Rattle.soc_io.specs.declared.sink.SinkFault.TheVariants.{Failed}
-use Rattle.soc_io.specs.Counts.{Rose}
 use Rattle.soc_io.specs.Writing.{Appends, AppendsFront, Writes, Printed}
 
 -- the first n of the bytes are a front of them
@@ -56,6 +55,7 @@ printed_then text old before mid between bytes new now (Err fault) so_far later 
 pub printed_stopped : (text : List ℕ) (old : Option (List ℕ)) (before : ℕ) (bytes : List ℕ) (new : Option (List ℕ)) (now : ℕ) → Printed text old before new now true → Printed (text ++ bytes) old before new now true
 printed_stopped text old before bytes new now so_far =
     record { counted = so_far.counted; so_far = (front_of_longer old text bytes new so_far.so_far.0, so_far.so_far.1) }
+
 -- what a caller's function that prints pieces ensures: the text was printed
 pub writes_of_printed : (text : List ℕ) (old : Option (List ℕ)) (before : ℕ) (new : Option (List ℕ)) (now : ℕ) (failed : Bool) → Printed text old before new now failed → Writes text old before new now (if failed then Err Failed else Ok (tt {0}))
 writes_of_printed text old before new now true so_far = so_far.so_far

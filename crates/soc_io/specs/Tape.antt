@@ -31,7 +31,7 @@ tape_adds bytes t = if tape_fails t then [] else take (t.room - length t.given) 
 -- the sink after a write: a fault is counted where not all of the bytes are taken, and nowhere else
 abbrev pub tape_after : List ℕ → Tape → Tape
 tape_after bytes t = record t {
-    given = t.given ++ tape_adds bytes t;
-    calls = one_more t.calls;
-    faults = if tape_takes bytes t then t.faults else one_more t.faults;
+  given = t.given ++ tape_adds bytes t;
+  calls = one_more t.calls;
+  faults = if tape_takes bytes t then t.faults else one_more t.faults;
 }

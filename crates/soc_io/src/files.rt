@@ -37,12 +37,7 @@ pub trait Files {
 
     /// Reads a file of at most [`FILE_LIMIT`] bytes into `into`, in place of what stood there. After
     /// any refusal `into` is empty.
-    fn read(
-        &mut self,
-        alloc: Global,
-        name: &str,
-        into: &mut Vec<u8>,
-    ) -> Result<(), FilesFault>
+    fn read(&mut self, alloc: Global, name: &str, into: &mut Vec<u8>) -> Result<(), FilesFault>
         ensures answer { Reads (holds self.old) name.now (faults self.old) (faults self.new) into.new.items result }
         ensures size { length into.new.items ≤ file_limit }
         ensures refused { OnErr result (into.new.items ≡ []) }

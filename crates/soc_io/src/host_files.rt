@@ -1,8 +1,7 @@
 //! The host's files.
 
-ghost use Rattle.std.specs.Prelude.{◌≡◌, ℕ, ◌≤◌, [], length, Option, None, OnErr};
-ghost use Rattle.soc_io.specs.Counts.{one_more};
-ghost use Rattle.soc_io.specs.Reading.{Held, Reads, file_limit, faults_after};
+ghost use Rattle.std.specs.Prelude.{◌≡◌, ◌≤◌, [], length, None, OnErr};
+ghost use Rattle.soc_io.specs.Reading.{Reads, file_limit, faults_after};
 
 use crate::files::{FILE_LIMIT, Files, FilesFault};
 use std::alloc::Global;
@@ -54,11 +53,7 @@ fn read_whole<F: Read>(file: &mut F, into: &mut Vec<u8>) -> Result<(), FilesFaul
 }
 
 // Reads the file of a name to what is empty. After a refusal a front of it may stand there.
-fn read_named<R: std::rt::Files>(
-    rt: &R,
-    name: &str,
-    into: &mut Vec<u8>,
-) -> Result<(), FilesFault>
+fn read_named<R: std::rt::Files>(rt: &R, name: &str, into: &mut Vec<u8>) -> Result<(), FilesFault>
     requires { into.old.items ≡ [] }
     ensures { length into.new.items ≤ file_limit }
 {
@@ -79,12 +74,7 @@ impl<'r, R: std::rt::Files> Files for HostFiles<'r, R> {
 
     ghost faults = { λ f. f.count };
 
-    fn read(
-        &mut self,
-        _alloc: Global,
-        name: &str,
-        into: &mut Vec<u8>,
-    ) -> Result<(), FilesFault>
+    fn read(&mut self, _alloc: Global, name: &str, into: &mut Vec<u8>) -> Result<(), FilesFault>
         ensures answer { Reads None name.now self.old.count self.new.count into.new.items result }
         ensures size { length into.new.items ≤ file_limit }
         ensures refused { OnErr result (into.new.items ≡ []) }
@@ -100,5 +90,48 @@ impl<'r, R: std::rt::Files> Files for HostFiles<'r, R> {
             }
         }
         answer
+    }
+}
+
+#[cfg(test)]
+mod tests {
+    use super::*;
+    use std::alloc::AllocError;
+    use std::fs;
+    use std::test::Fail;
+
+    // So many bytes.
+    fn filled(alloc: Global, len: usize) -> Result<Vec<u8>, AllocError> {
+        Vec::from_elem(alloc, b'x', len)
+    }
+
+    #[test]
+    fn reads_real_files(rt: HostRuntime) -> Result<(), Fail> {
+        let alloc = rt.alloc();
+        let folder = "soc_io_host_files";
+        fs::create_dir_all(&rt, folder)?;
+        fs::write(&rt, "soc_io_host_files/small", "some bytes")?;
+        let whole = filled(alloc, 4_194_304)?;
+        fs::write(&rt, "soc_io_host_files/whole", whole.as_slice())?;
+        let long = filled(alloc, 4_194_305)?;
+        fs::write(&rt, "soc_io_host_files/long", long.as_slice())?;
+        let cases = [
+            ("soc_io_host_files/small", Ok(()), 10),
+            ("soc_io_host_files/whole", Ok(()), 4_194_304),
+            ("soc_io_host_files/long", Err(FilesFault::TooLong), 0),
+            ("soc_io_host_files/none", Err(FilesFault::Absent), 0),
+            ("soc_io_host_files", Err(FilesFault::Failed), 0),
+        ];
+        let mut files = HostFiles::new(&rt);
+        for (name, want, len) in cases {
+            let mut into = Vec::from_slice(alloc, b"left over")?;
+            assert_eq!(rt; files.read(alloc, name, &mut into), want, "of {name}");
+            assert_eq!(rt; into.len(), len, "of {name}");
+        }
+        let mut into = Vec::new(alloc);
+        files.read(alloc, "soc_io_host_files/small", &mut into)?;
+        assert_eq!(rt; into.as_slice(), b"some bytes".as_slice());
+        fs::remove_dir_all(&rt, folder)?;
+        Ok(())
     }
 }

@@ -1,6 +1,6 @@
 //! The host's standard output.
 
-ghost use Rattle.std.specs.Prelude.{◌≡◌, ℕ, ◌≤◌, List, Option, None, is_ok, if◌then◌else◌};
+ghost use Rattle.std.specs.Prelude.{◌≡◌, ◌≤◌, None, is_ok, if◌then◌else◌};
 ghost use Rattle.soc_io.specs.Counts.{one_more};
 ghost use Rattle.soc_io.specs.Writing.{Writes};
 
@@ -59,5 +59,65 @@ impl<'r, R: Print> Sink for HostSink<'r, R> {
             self.count = self.count.saturating_add(1);
         }
         answer
+    }
+}
+
+#[cfg(test)]
+mod tests {
+    use super::*;
+    use std::cell::Cell;
+    use std::fmt::Display;
+    use std::io;
+    use std::test::Fail;
+
+    // An output that takes two bytes at a time, is interrupted once, and fails after five bytes.
+    #[derive(Drop)]
+    struct Slow {
+        taken: Cell<usize>,
+        calls: Cell<usize>,
+    }
+
+    impl Print for Slow {
+        fn print<D: Display + Drop>(&self, _value: D) -> io::Result<()> {
+            Err(io::Error::from(ErrorKind::Unsupported))
+        }
+
+        fn println<D: Display + Drop>(&self, _value: D) -> io::Result<()> {
+            Err(io::Error::from(ErrorKind::Unsupported))
+        }
+
+        fn write_all(&self, _bytes: &[u8]) -> io::Result<()> {
+            Err(io::Error::from(ErrorKind::Unsupported))
+        }
+
+        fn write_some(&self, bytes: &[u8]) -> io::Result<usize> {
+            self.calls.set(self.calls.get().saturating_add(1));
+            if self.calls.get() == 2 {
+                return Err(io::Error::from(ErrorKind::Interrupted));
+            }
+            let left = 5usize.saturating_sub(self.taken.get());
+            if left == 0 {
+                return Err(io::Error::from(ErrorKind::BrokenPipe));
+            }
+            let count = bytes.len().min(left).min(2);
+            self.taken.set(self.taken.get().saturating_add(count));
+            Ok(count)
+        }
+    }
+
+    #[test]
+    fn writes_all_or_says_that_it_failed(rt: HostRuntime) -> Result<(), Fail> {
+        let slow = Slow {
+            taken: Cell::new(0),
+            calls: Cell::new(0),
+        };
+        let mut sink = HostSink::new(&slow);
+        assert_eq!(rt; sink.write(b"abcd"), Ok(()));
+        assert_eq!(rt; slow.taken.get(), 4);
+        assert_eq!(rt; sink.write(b"ef"), Err(SinkFault::Failed));
+        assert_eq!(rt; slow.taken.get(), 5);
+        let mut output = HostSink::new(&rt);
+        assert_eq!(rt; output.write(b"written by a test\n"), Ok(()));
+        Ok(())
     }
 }

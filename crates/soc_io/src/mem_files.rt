@@ -1,8 +1,8 @@
 //! Files in memory.
 
-ghost use Rattle.std.specs.Prelude.{◌≡◌, ◌≢◌, ℕ, ◌≤◌, ◌<◌, ◌↔◌, [], ◌++◌, List, length, position, find, bytes_eq, Option, Some, IsTrue, OnOk, OnErr};
+ghost use Rattle.std.specs.Prelude.{◌≡◌, ◌≢◌, ℕ, ◌≤◌, ◌<◌, ◌↔◌, [], length, position, find, bytes_eq, Option, Some, IsTrue, OnOk, OnErr};
 ghost use Rattle.std.specs.Option.{option_copied};
-ghost use Rattle.soc_io.specs.Reading.{Held, with_file, Reads, ReadsHeld, held_at, file_limit};
+ghost use Rattle.soc_io.specs.Reading.{with_file, Reads, ReadsHeld, held_at, file_limit};
 ghost use Rattle.soc_io.specs.Shelf.{Shelf, shelf_fails, shelf_after};
 
 use crate::files::{FILE_LIMIT, Files, FilesFault};
@@ -113,12 +113,7 @@ impl Files for MemFiles {
 
     ghost faults = { λ m. m.faults };
 
-    fn read(
-        &mut self,
-        _alloc: Global,
-        name: &str,
-        into: &mut Vec<u8>,
-    ) -> Result<(), FilesFault>
+    fn read(&mut self, _alloc: Global, name: &str, into: &mut Vec<u8>) -> Result<(), FilesFault>
         ensures answer { Reads (Some self.old.held) name.now self.old.faults self.new.faults into.new.items result }
         ensures size { length into.new.items ≤ file_limit }
         ensures refused { OnErr result (into.new.items ≡ []) }
@@ -134,5 +129,66 @@ impl Files for MemFiles {
             return Err(FilesFault::Failed);
         }
         copy_found(self.entries.as_slice(), name, into)
+    }
+}
+
+#[cfg(test)]
+mod tests {
+    use super::*;
+    use std::test::Fail;
+
+    // The bytes that a read gives, or its refusal.
+    fn answer(alloc: Global, files: &mut MemFiles, name: &str) -> Result<Vec<u8>, FilesFault> {
+        let Ok(mut into) = Vec::from_slice(alloc, b"left over") else {
+            return Err(FilesFault::NoMemory);
+        };
+        files.read(alloc, name, &mut into)?;
+        Ok(into)
+    }
+
+    // So many bytes.
+    fn filled(alloc: Global, len: usize) -> Result<Vec<u8>, AllocError> {
+        Vec::from_elem(alloc, b'x', len)
+    }
+
+    #[test]
+    fn answers_by_name_and_by_call(rt: HostRuntime) -> Result<(), Fail> {
+        let alloc = rt.alloc();
+        let mut files = MemFiles::new(alloc, vec![in alloc; 2, 5]?);
+        files.add("a", b"old")?;
+        files.add("b", b"")?;
+        files.add("a", b"new")?;
+        let cases: [(&str, Result<&[u8], FilesFault>); 6] = [
+            ("a", Ok(b"new")),
+            ("a", Err(FilesFault::Failed)),
+            ("b", Ok(b"")),
+            ("c", Err(FilesFault::Absent)),
+            ("c", Err(FilesFault::Failed)),
+            ("a", Ok(b"new")),
+        ];
+        for (name, want) in cases {
+            let got = answer(alloc, &mut files, name);
+            match (&got, want) {
+                (Ok(bytes), Ok(wanted)) => assert_eq!(rt; bytes.as_slice(), wanted, "of {name}"),
+                (Err(fault), Err(wanted)) => assert_eq!(rt; *fault, wanted, "of {name}"),
+                _ => assert!(rt; false, "of {name}"),
+            }
+        }
+        Ok(())
+    }
+
+    #[test]
+    fn reads_up_to_the_limit(rt: HostRuntime) -> Result<(), Fail> {
+        let alloc = rt.alloc();
+        let mut files = MemFiles::new(alloc, Vec::new(alloc));
+        files.add("whole", filled(alloc, 4_194_304)?.as_slice())?;
+        files.add("long", filled(alloc, 4_194_305)?.as_slice())?;
+        let whole = answer(alloc, &mut files, "whole")?;
+        assert_eq!(rt; whole.len(), 4_194_304);
+        let mut into = Vec::from_slice(alloc, b"left over")?;
+        let long = files.read(alloc, "long", &mut into);
+        assert_eq!(rt; long, Err(FilesFault::TooLong));
+        assert!(rt; into.is_empty());
+        Ok(())
     }
 }

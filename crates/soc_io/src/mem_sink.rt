@@ -1,6 +1,6 @@
 //! A sink in memory.
 
-ghost use Rattle.std.specs.Prelude.{◌≡◌, ◌≤◌, ◌+◌, ◌++◌, ◌↔◌, [], List, length, Option, Some, IsTrue, IsOk, IfOk, vec_len, vec_capacity};
+ghost use Rattle.std.specs.Prelude.{◌≡◌, ◌≤◌, ◌+◌, ◌++◌, ◌↔◌, [], length, Some, IsTrue, IsOk, IfOk, vec_len, vec_capacity};
 ghost use Rattle.soc_io.specs.Writing.{Writes};
 ghost use Rattle.soc_io.specs.Tape.{Tape, tape_takes, tape_after};
 
@@ -89,6 +89,30 @@ impl Sink for MemSink {
             return Err(SinkFault::Failed);
         }
         append(&mut self.bytes, bytes);
+        Ok(())
+    }
+}
+
+#[cfg(test)]
+mod tests {
+    use super::*;
+    use std::test::Fail;
+
+    #[test]
+    fn takes_what_fits_but_at_listed_calls(rt: HostRuntime) -> Result<(), Fail> {
+        let alloc = rt.alloc();
+        let mut sink = MemSink::new(alloc, 5, vec![in alloc; 2]?)?;
+        let cases: [(&[u8], bool, &[u8]); 5] = [
+            (b"abc", true, b"abc"),
+            (b"d", false, b"abc"),
+            (b"defg", false, b"abcde"),
+            (b"f", false, b"abcde"),
+            (b"", true, b"abcde"),
+        ];
+        for (bytes, is_ok, held) in cases {
+            assert_eq!(rt; sink.write(bytes).is_ok(), is_ok, "after {held:?}");
+            assert_eq!(rt; sink.written(), held);
+        }
         Ok(())
     }
 }

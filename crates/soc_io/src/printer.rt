@@ -57,3 +57,6 @@ impl<'s, S: Sink> Printer<'s, S> {
         self.failed
     }
 }
+
+#[cfg(test)]
+mod tests;
