@@ -1,13 +1,28 @@
-// A library with one function.
+//! Bundles (what an application brings: its parts and its channels), the rules by which their raw
+//! values are judged for a platform, the resources that they hold, and what grants are.
+//!
+//! `specs/` has the meanings: `Sets` (bit sets as lists), `Rules` (the rules B4 to B14 and the
+//! least that is broken), `Bundle` (the bundle that raw values mean), `WellFormed` (what a bundle
+//! is that breaks no rule), `Resources` (what a bundle holds, and which resources meet) and
+//! `Grants` (grants that conflict, and grants that are apart).
 #![tactic(auto)]
 
-ghost use Rattle.std.specs.Prelude.{◌≡◌};
-ghost use Rattle.bundle_model.specs.Echo.{echo_of};
+/// The parts and channels of an application.
+mod bundle;
+/// Judging the raw values of a bundle file.
+mod judge;
+/// The values of a bundle file, before they are judged.
+mod raw;
+/// What an application holds of a platform.
+mod resource;
+/// The rules of bundle files.
+mod rules;
+/// What a run knows beforehand, and what is granted in it.
+mod world;
 
-// The `ensures` clause is the contract: what `echo` returns is `echo_of` of its argument, a definition
-// in `specs/Echo.antt`, which a caller's clause can cite too.
-pub fn echo(x: usize) -> usize
-    ensures { result ≡ echo_of x }
-{
-    x
-}
+pub use bundle::{Bundle, Channel, End, Pair, Part};
+pub use judge::check;
+pub use raw::{RawBundle, RawChannel, RawPair, RawPart};
+pub use resource::{Resource, meets, resources};
+pub use rules::{BRule, BundleFault};
+pub use world::{Grant, LoadName, Named, Schedule, World};

@@ -13,17 +13,33 @@ use Rattle.platform_model.specs.declared.rules.PlatformFault.TheVariants.{Rule, 
 -- the raw numbers of a cost table
 abbrev pub raw_costs : Costs → RawCosts
 raw_costs costs = record {
-    integer = pos costs.integer; mul = pos costs.mul; div = pos costs.div; load = pos costs.load; store = pos costs.store;
-    taken = pos costs.taken; untaken = pos costs.untaken; jump = pos costs.jump; device = pos costs.device; system = pos costs.system }
+  integer = pos costs.integer;
+  mul = pos costs.mul;
+  div = pos costs.div;
+  load = pos costs.load;
+  store = pos costs.store;
+  taken = pos costs.taken;
+  untaken = pos costs.untaken;
+  jump = pos costs.jump;
+  device = pos costs.device;
+  system = pos costs.system;
+}
 
 -- the raw numbers of a platform
 abbrev pub raw_of : Platform → RawPlatform
 raw_of platform = record {
-    tiles = pos platform.tiles; mem_bytes = pos platform.mem_bytes;
-    slot_cycles = pos platform.slot_cycles; table_slots = pos platform.table_slots;
-    kernel_cycles = pos platform.kernel_cycles; partition_cycles = pos platform.partition_cycles;
-    partition_slots = pos platform.partition_slots; ports = pos platform.ports; queue = pos platform.queue;
-    links = map raw_link platform.links; costs = raw_costs platform.costs }
+  tiles = pos platform.tiles;
+  mem_bytes = pos platform.mem_bytes;
+  slot_cycles = pos platform.slot_cycles;
+  table_slots = pos platform.table_slots;
+  kernel_cycles = pos platform.kernel_cycles;
+  partition_cycles = pos platform.partition_cycles;
+  partition_slots = pos platform.partition_slots;
+  ports = pos platform.ports;
+  queue = pos platform.queue;
+  links = map raw_link platform.links;
+  costs = raw_costs platform.costs;
+}
 
 -- what the answer of a judgement says of the least rule that is broken
 abbrev pub Judges : Option PRule → Result Platform PlatformFault → Type 0

@@ -30,8 +30,8 @@ breaks P5 raw = not (is_within raw.mem_bytes (pos 16) (pos 1048576) && is_multip
 breaks P6 raw = not (is_within raw.slot_cycles (pos 1) (pos 64) && is_within raw.table_slots (pos 1) (pos 64))
 breaks P7 raw =
     not (is_within raw.kernel_cycles (pos 66) (pos 4096)
-        && is_within raw.partition_cycles (pos 1) (pos 65536)
-        && is_within raw.partition_slots (pos 1) (pos 16))
+    && is_within raw.partition_cycles (pos 1) (pos 65536)
+    && is_within raw.partition_slots (pos 1) (pos 16))
 breaks P8 raw = not (is_within raw.ports (pos 0) (pos 16) && is_within raw.queue (pos 1) (pos 63))
 breaks P9 raw = not (nat_le (length raw.links) 128 && list_all (joins_tiles raw.tiles) raw.links)
 breaks P10 raw = not (list_all has_router_ports raw.links)
