@@ -20,8 +20,9 @@ is_cost cycles = is_within cycles (pos 1) (pos 64)
 
 abbrev pub are_costs : RawCosts → Bool
 are_costs costs =
-    is_cost costs.integer && is_cost costs.mul && is_cost costs.div && is_cost costs.load && is_cost costs.store
-    && is_cost costs.taken && is_cost costs.untaken && is_cost costs.jump && is_cost costs.device && is_cost costs.system
+    list_all is_cost
+    (costs.integer ∷ costs.mul ∷ costs.div ∷ costs.load ∷ costs.store
+    ∷ costs.taken ∷ costs.untaken ∷ costs.jump ∷ costs.device ∷ costs.system ∷ [])
 
 -- whether the raw numbers break a rule; P1 to P3 speak of the file alone
 abbrev pub breaks : PRule → RawPlatform → Bool

@@ -6,6 +6,8 @@
 //! numbers, and the times of its frame).
 #![tactic(auto)]
 
+/// Whether raw numbers break a rule.
+mod broken;
 /// Judging the raw numbers of a platform file.
 mod check;
 /// What instructions cost.
@@ -14,7 +16,7 @@ mod costs;
 mod link;
 /// The platform.
 mod platform;
-/// Ranges of raw numbers.
+/// Tests of raw numbers.
 mod range;
 /// The numbers of a platform file, before they are judged.
 mod raw;
@@ -24,6 +26,6 @@ mod rules;
 pub use costs::Costs;
 pub use link::Link;
 pub use platform::Platform;
-pub use range::is_between;
+pub use range::{divides, is_between};
 pub use raw::{RawCosts, RawLink, RawPlatform};
 pub use rules::{PRule, PlatformFault};

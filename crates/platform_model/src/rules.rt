@@ -1,6 +1,4 @@
-//! The rules of platform files, and the least that the raw numbers break.
-
-ghost use Rattle.std.specs.Prelude.{◌≡◌};
+//! The rules of platform files.
 
 use thiserror::Error;
 
