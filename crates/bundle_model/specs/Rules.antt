@@ -1,6 +1,6 @@
 -- The rules B4 to B14 over the raw values of a bundle file, for a platform, and the least that is
 -- broken. A rule is judged over the whole file.
-use Rattle.std.specs.Prelude.{ℕ, ◌*◌, ℤ, pos, ◌+ℤ◌, ◌-ℤ◌, Bool, true, false, not, ◌&&◌, ◌||◌, int_le, int_lt, List, [], ◌∷◌, length, Option, Some, None}
+use Rattle.std.specs.Prelude.{ℕ, ◌*◌, ◌==◌, ℤ, pos, ◌+ℤ◌, ◌-ℤ◌, Bool, true, false, not, ◌&&◌, ◌||◌, int_le, int_lt, List, [], ◌∷◌, length, Option, Some, None}
 use Rattle.std.specs.List.{list_any, list_all, find}
 use Rattle.std.specs.Ordering.{int_eq}
 use Rattle.std.specs.Str.{bytes_eq}
@@ -13,9 +13,8 @@ use Rattle.bundle_model.specs.declared.raw.RawBundle.{RawBundle}
 use Rattle.bundle_model.specs.declared.rules.BRule.{BRule}
 use Rattle.bundle_model.specs.declared.rules.BRule.TheVariants.{B4, B5, B6, B7, B8, B9, B10, B11, B12, B13, B14}
 
-abbrev pub is_none_of : {Item : Type 0} → List Item → Bool
-is_none_of [] = true
-is_none_of _ = false
+abbrev pub is_empty : {Item : Type 0} → List Item → Bool
+is_empty items = length items == 0
 
 -- the part stands on a tile of the platform
 abbrev pub has_tile : Platform → RawPart → Bool
@@ -31,11 +30,13 @@ ascends [] = true
 ascends (number ∷ []) = true
 ascends (number ∷ next ∷ rest) = int_lt number next && ascends (next ∷ rest)
 
+-- a partition slot of the platform
+abbrev pub is_slot : Platform → ℤ → Bool
+is_slot platform slot = int_le (pos 0) slot && int_lt slot (pos platform.partition_slots)
+
 -- the part has slots, and they are partition slots of the platform, ascending
 abbrev pub has_slots : Platform → RawPart → Bool
-has_slots platform part =
-    not (is_none_of part.slots) && ascends part.slots
-    && list_all (λ slot. int_le (pos 0) slot && int_lt slot (pos platform.partition_slots)) part.slots
+has_slots platform part = not (is_empty part.slots) && list_all (is_slot platform) part.slots && ascends part.slots
 
 -- the part's region lies in the tile's memory, and its base and length are multiples of 16
 abbrev pub has_region : Platform → RawPart → Bool
@@ -63,15 +64,19 @@ is_kind name = bytes_eq name word_kind || bytes_eq name send_kind || bytes_eq na
 abbrev pub has_trace : RawPart → Bool
 has_trace part = is_within part.trace (pos 0) (pos 4096) && list_all is_kind part.kinds && not (has_twin bytes_eq part.kinds)
 
+-- the part holds a port
+abbrev pub has_ports : RawPart → Bool
+has_ports part = not (is_empty part.ports)
+
 -- the bundle has a port or a channel pair: such bundles come with the network
 abbrev pub communicates : RawBundle → Bool
-communicates raw = list_any (λ part. not (is_none_of part.ports)) raw.parts || not (is_none_of raw.pairs)
+communicates raw = list_any has_ports raw.parts || not (is_empty raw.pairs)
 
 -- whether the raw values break a rule on the platform; B1 to B3 speak of the file alone, and B12 to
 -- B14 of channel pairs, which B11 refuses for now
 abbrev pub breaks : BRule → Platform → RawBundle → Bool
 breaks B4 platform raw = not (int_eq raw.version (pos 1))
-breaks B5 platform raw = is_none_of raw.parts || not (list_all (has_tile platform) raw.parts) || has_twin shares_tile raw.parts
+breaks B5 platform raw = is_empty raw.parts || not (list_all (has_tile platform) raw.parts) || has_twin shares_tile raw.parts
 breaks B6 platform raw = not (list_all (has_slots platform) raw.parts)
 breaks B7 platform raw = not (list_all (has_region platform) raw.parts)
 breaks B8 platform raw = not (list_all has_image raw.parts)

@@ -5,7 +5,7 @@ use Rattle.std.specs.Str.{bytes_eq}
 use Rattle.std.specs.List.{list_any, range_with_len}
 
 -- the slots of a set, ascending: those below 16 whose bit is set
-abbrev pub slots_of : ℕ → List ℕ
+unfoldable pub slots_of : ℕ → List ℕ
 slots_of set = filter (λ slot. bit_at set slot == 1) (range_with_len 0 16)
 
 -- the set of these slots

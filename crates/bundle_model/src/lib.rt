@@ -7,6 +7,8 @@
 //! `Grants` (grants that conflict, and grants that are apart).
 #![tactic(auto)]
 
+/// Whether raw values break a rule.
+mod broken;
 /// The parts and channels of an application.
 mod bundle;
 /// Judging the raw values of a bundle file.

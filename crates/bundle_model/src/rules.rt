@@ -39,14 +39,15 @@ pub enum BRule {
     /// Ports and channel pairs fit together.
     #[error("ports and pairs don't fit together")]
     B11,
-    /// A channel's path leads along links of the platform.
-    #[error("a channel's path leads nowhere")]
+    /// A channel's path leads along links of the platform from its one tile to its other, and its
+    /// slots are slots of the tables, ascending, and at least one.
+    #[error("a channel's path leads nowhere, or its slots are no ascending slots of the tables")]
     B12,
-    /// A channel's slots are slots of the tables, and no resource is held twice.
+    /// No resource stands twice in the bundle's list.
     #[error("a resource is held twice")]
     B13,
-    /// A bundle is small enough.
-    #[error("the bundle is too large")]
+    /// The bundle's list has at most 4096 resources.
+    #[error("the bundle holds too many resources")]
     B14,
 }
 

@@ -1,6 +1,6 @@
 //! What a run knows beforehand, and what is granted in it.
 
-ghost use Rattle.std.specs.Prelude.{◌≡◌, [], IfOk};
+ghost use Rattle.std.specs.Prelude.{◌≡◌, [], IfOk, vec_capacity};
 
 use crate::bundle::Bundle;
 use crate::rules::BRule;
@@ -52,7 +52,7 @@ pub struct Grant {
 #[derive(Debug, Drop)]
 pub struct Schedule {
     /// The grants, in the order in which they were given.
-    pub grants: Items<Grant>,
+    pub grants: Vec<Grant>,
     /// The horizon, in slots: no later command changes what happens before it.
     pub horizon: u64,
 }
@@ -60,13 +60,11 @@ pub struct Schedule {
 impl Schedule {
     /// Makes a schedule with no grant, horizon 0 and room for so many grants.
     pub fn new(alloc: Global, room: u16) -> Result<Schedule, NoMemory>
-        ensures none { IfOk result (λ schedule. schedule.grants ≡ []) }
+        ensures none { IfOk result (λ schedule. schedule.grants.items ≡ []) }
+        ensures room { IfOk result (λ schedule. vec_capacity schedule.grants ≡ room) }
         ensures begins { IfOk result (λ schedule. schedule.horizon ≡ 0) }
     {
         let grants = Vec::with_capacity(alloc, usize::from(room))?;
-        Ok(Schedule {
-            grants: Items::from_vec(grants),
-            horizon: 0,
-        })
+        Ok(Schedule { grants, horizon: 0 })
     }
 }
