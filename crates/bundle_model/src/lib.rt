@@ -13,6 +13,8 @@ mod broken;
 mod bundle;
 /// Judging the raw values of a bundle file.
 mod judge;
+/// Making parts of raw values.
+mod part;
 /// The values of a bundle file, before they are judged.
 mod raw;
 /// What an application holds of a platform.
