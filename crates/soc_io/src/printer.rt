@@ -1,9 +1,10 @@
 //! A text in several writes.
 
-ghost use Rattle.std.specs.Prelude.{◌≡◌, ℕ, [], ◌++◌, List, Option, IsTrue, if◌then◌else◌};
+ghost use Rattle.std.specs.Prelude.{◌≡◌, ℕ, ◌+◌, ◌≤◌, [], ◌++◌, length, List, Option, IsTrue, if◌then◌else◌};
 ghost use Rattle.soc_io.specs.Writing.{Printed};
 
 use crate::sink::{Sink, SinkFault};
+use soc_base::Line;
 
 /// Prints a text to a sink in several writes, and writes nothing more once one of them failed.
 #[derive(Drop)]
@@ -38,6 +39,33 @@ impl<'s, S: Sink> Printer<'s, S> {
         self.failed = self.sink.write(bytes).is_err();
     }
 
+    /// Prints a line around a name: in one write where it has at most 512 bytes, and else in three.
+    pub fn put_named(&mut self, front: &str, name: &str, back: &str)
+        ensures printed { (text : List ℕ) (old : Option (List ℕ)) (before : ℕ) → Printed text old before (S.written self.old.sink.now) (S.faults self.old.sink.now) self.old.failed → Printed (text ++ (front.now ++ name.now ++ back.now)) old before (S.written self.new.sink.now) (S.faults self.new.sink.now) self.new.failed }
+        ensures same { self.new.sink.ghost_name ≡ self.old.sink.ghost_name }
+    {
+        if front
+            .len()
+            .saturating_add(name.len())
+            .saturating_add(back.len())
+            <= 512
+        {
+            self.put(named_line(front, name, back).as_str().as_bytes());
+        } else {
+            self.put_three(front, name, back);
+        }
+    }
+
+    // Prints three pieces in as many writes.
+    fn put_three(&mut self, front: &str, name: &str, back: &str)
+        ensures printed { (text : List ℕ) (old : Option (List ℕ)) (before : ℕ) → Printed text old before (S.written self.old.sink.now) (S.faults self.old.sink.now) self.old.failed → Printed (text ++ (front.now ++ name.now ++ back.now)) old before (S.written self.new.sink.now) (S.faults self.new.sink.now) self.new.failed }
+        ensures same { self.new.sink.ghost_name ≡ self.old.sink.ghost_name }
+    {
+        self.put(front.as_bytes());
+        self.put(name.as_bytes());
+        self.put(back.as_bytes());
+    }
+
     /// Ends the text, and answers whether all of it was written.
     pub fn finish(self) -> Result<(), SinkFault>
         ensures answer { result ≡ (if self.entry.failed then Err SinkFault.Failed else Ok (tt {0})) }
@@ -56,6 +84,18 @@ impl<'s, S: Sink> Printer<'s, S> {
     {
         self.failed
     }
+}
+
+// A line of three pieces, which fit.
+fn named_line(front: &str, name: &str, back: &str) -> Line
+    requires { length front.now + length name.now + length back.now ≤ 512 }
+    ensures { result.bytes ≡ front.now ++ name.now ++ back.now }
+{
+    let mut line = Line::new();
+    line.push_str(front);
+    line.push_str(name);
+    line.push_str(back);
+    line
 }
 
 #[cfg(test)]
