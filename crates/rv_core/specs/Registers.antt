@@ -1,5 +1,5 @@
 -- The registers of a hart: pc, and x0 to x31.
-use Rattle.std.specs.Prelude.{ℕ, ◌==◌, List, replicate, slice_index, slice_set, if◌then◌else◌}
+use Rattle.std.specs.Prelude.{◌≡◌, ℕ, ◌^◌, ◌<◌, ◌==◌, List, length, replicate, slice_index, slice_set, if◌then◌else◌}
 
 -- pc and the values of x0 to x31, each a word of 32 bits; x0 is 0
 pub record Registers : Type 0 where
@@ -17,3 +17,10 @@ register_at r n = slice_index r.x n
 -- a register takes a value; x0 stays as it is
 abbrev pub with_register : Registers → ℕ → ℕ → Registers
 with_register r n value = if n == 0 then r else record r { x = slice_set r.x n value }
+
+-- registers that a hart can hold: words of 32 bits, and x0 zero
+pub record IsRegisters (r : Registers) : Type 0 where
+  pub pc : r.pc < 2 ^ 32
+  pub count : length r.x ≡ 32
+  pub words : (n : ℕ) → register_at r n < 2 ^ 32
+  pub zero : register_at r 0 ≡ 0

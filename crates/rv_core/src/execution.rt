@@ -1,11 +1,9 @@
 //! One step of a hart: an instruction, its registers and a bus.
 
-ghost use Rattle.std.specs.Prelude.{◌≡◌, ◌<◌, ◌*◌, ◌^◌};
-ghost use Rattle.soc_base.specs.Widths.{width_bytes};
+ghost use Rattle.std.specs.Prelude.{◌≡◌};
 ghost use Rattle.rv_core.specs.Access.{load_width, IsLoaded};
-ghost use Rattle.rv_core.specs.Registers.{Registers};
 ghost use Rattle.rv_core.specs.Table.{IsInRange, IsRegister};
-ghost use Rattle.rv_core.specs.Effect.{request_of, effect_of, ask, ends, next, set, jump, link, branch, after_load, after_store};
+ghost use Rattle.rv_core.specs.Effect.{request_of, effect_of, ask, next, set, jump, link, branch, after_load, after_store};
 
 use crate::arithmetic::{
     extended, immediate_result, register_result, stored, width_of_load, width_of_store,

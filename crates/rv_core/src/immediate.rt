@@ -1,9 +1,9 @@
-//! The constants within instructions: from fields, and the fields of an instruction by its format
-//! (RISC-V Unprivileged ISA, "Immediate Encoding Variants").
+//! The constants within instructions, from the fields of a word (RISC-V Unprivileged ISA, "Immediate
+//! Encoding Variants"). Each has its format's range, and the format gives the fields back.
 
-ghost use Rattle.std.specs.Prelude.{◌≡◌, ◌+◌, ◌*◌, ◌^◌, ◌<◌};
-ghost use Rattle.rv_core.specs.Formats.{r_type, i_type, s_type, b_type, u_type, j_type, fence_type, shift_type, i_imm, s_imm, b_imm, u_imm, j_imm, fence_rest, signed_of_bits, IsFields};
-ghost use Rattle.rv_core.specs.Table.{IsOfBits, IsEven, IsUpper, IsShift, IsRegister, IsFenceRest};
+ghost use Rattle.std.specs.Prelude.{◌≡◌, ◌^◌, ◌<◌};
+ghost use Rattle.rv_core.specs.Formats.{i_type, s_type, b_type, u_type, j_type, fence_type, i_imm, s_imm, b_imm, u_imm, j_imm, fence_rest, signed_of_bits, IsFields};
+ghost use Rattle.rv_core.specs.Table.{IsOfBits, IsEven, IsUpper, IsFenceRest};
 
 use crate::fields::Fields;
 

@@ -2,7 +2,7 @@
 //! "Programmers' Model for Base Integer ISA").
 
 ghost use Rattle.std.specs.Prelude.{◌≡◌, ◌<◌};
-ghost use Rattle.rv_core.specs.Registers.{register_at, with_register, fresh_registers};
+ghost use Rattle.rv_core.specs.Registers.{register_at, with_register, fresh_registers, IsRegisters};
 ghost use Rattle.rv_core.specs.Effect.{address_of};
 
 use std::marker::Model;
@@ -41,7 +41,7 @@ impl Regs {
     pub fn read(&self, register: u8) -> u32
         requires { register < 32 }
         ensures value { result ≡ register_at self.now register }
-        ensures zero { register ≡ 0 → result ≡ 0 }
+        ensures valid { IsRegisters self.now }
     {
         self.x[usize::from(register)]
     }
