@@ -1,15 +1,14 @@
 -- A set that is made of ascending slots has just these slots.
-use Rattle.std.proofs.Common.{◌≡◌, ◌≢◌, ℕ, ℤ, pos, negsuc, zero, suc, ◌+◌, ◌^◌, ◌<◌, ◌≤◌, ◌==◌, max, Bool, true, false, cond, ◌&&◌, ◌||◌, List, [], ◌∷◌, fold, filter, map, bit_or, int_le, int_lt, refl, sym, ap, ◌∙◌, subst, inl, inr, arith}
+use Rattle.std.proofs.Common.{◌≡◌, ℕ, ℤ, pos, negsuc, zero, suc, ◌+◌, ◌^◌, ◌<◌, ◌≤◌, ◌==◌, Bool, true, false, ◌&&◌, ◌||◌, List, [], ◌∷◌, fold, filter, map, bit_or, int_le, int_lt, refl, sym, ap, ◌∙◌, inl, inr, arith}
 use Rattle.std.specs.Prelude.{nat_abs, ⊤}
 use Rattle.std.specs.Int.{bit_at}
-use Rattle.std.specs.List.{list_all, range_with_len}
+use Rattle.std.specs.List.{range_with_len}
 use Rattle.std.proofs.lemmas.Bool.{and_parts, ltb-true, cases_lt, cases_eq, eq-eqb, ne_eqb}
 use Rattle.std.proofs.lemmas.Bool.Decides.{nat_tests}
 use Rattle.std.proofs.lemmas.Nat.Bits.{bit_at_or, bit_at-pow_same, bit_at-pow_other, bit_at-lt, bit_at-zero}
 use Rattle.std.proofs.Math.Bool.{or_assoc}
 use Rattle.soc_base.specs.Time.{is_among}
 use Rattle.bundle_model.specs.Sets.{slots_of, slot_set}
-use Rattle.bundle_model.specs.Rules.{ascends}
 
 -- the bit of a slot is set in a set to which one slot is joined where it was, or where it is the slot
 bit_joined : (set slot k : ℕ) → (bit_at (bit_or set (2 ^ slot)) k == 1) ≡ ((bit_at set k == 1) || (slot == k))

@@ -1,11 +1,11 @@
 -- A bundle whose raw values break no rule is well-formed.
-use Rattle.std.proofs.Common.{◌≡◌, ◌≢◌, ℕ, ℤ, pos, negsuc, ◌+◌, ◌*◌, ◌%◌, ◌<◌, ◌≤◌, ◌==◌, ◌+ℤ◌, ◌-ℤ◌, Bool, true, false, cond, not, ◌&&◌, ◌||◌, List, [], ◌∷◌, map, length, All, int_le, int_lt, nat_eq, unwrap_or, Option, Some, None, refl, sym, ap, ◌∙◌, subst, arith}
+use Rattle.std.proofs.Common.{◌≡◌, ◌≢◌, ℕ, ℤ, pos, negsuc, ◌+◌, ◌*◌, ◌%◌, ◌<◌, ◌≤◌, ◌+ℤ◌, ◌-ℤ◌, Bool, true, false, not, ◌&&◌, ◌||◌, List, [], ◌∷◌, map, length, All, int_le, int_lt, nat_eq, unwrap_or, Option, Some, None, refl, ap, arith}
 use Rattle.std.specs.Prelude.{nat_abs, if◌then◌else◌}
 use Rattle.std.specs.List.{list_any, list_all, find, IsDistinct, AllByRecursion}
 use Rattle.std.specs.Ordering.{int_eq}
 use Rattle.std.specs.Str.{bytes_eq}
-use Rattle.std.proofs.lemmas.Bool.{and_parts, both_ways, not-false, not-true, ltb-true, leb-true, eqb-false, eqb-true, ne_eqb}
-use Rattle.std.proofs.lemmas.Bool.Decides.{nat_tests, Decides-int_eq}
+use Rattle.std.proofs.lemmas.Bool.{and_parts, both_ways, not-false, ltb-true, leb-true, eqb-true, ne_eqb}
+use Rattle.std.proofs.lemmas.Bool.Decides.{Decides-int_eq}
 use Rattle.std.proofs.lemmas.Int.{ints}
 use Rattle.std.proofs.lemmas.List.Elements.{All-nil, All-cons}
 use Rattle.platform_model.specs.Limits.{is_within, is_multiple}
@@ -13,8 +13,8 @@ use Rattle.platform_model.specs.Twins.{has_twin}
 use Rattle.platform_model.specs.declared.platform.Platform.{Platform}
 use Rattle.platform_model.proofs.Passing.{passed_over, neither}
 use Rattle.platform_model.proofs.Ranges.{no_remainder}
-use Rattle.bundle_model.specs.Sets.{slots_of, slot_set, names, kind_set, word_kind, send_kind, recv_kind, step_kind}
-use Rattle.bundle_model.specs.Rules.{is_empty, has_tile, shares_tile, is_slot, ascends, has_slots, has_region, image_fits, has_image, has_entry, is_kind, has_trace, has_ports, communicates, breaks, first_rule}
+use Rattle.bundle_model.specs.Sets.{slots_of, slot_set, names, word_kind, send_kind, recv_kind, step_kind}
+use Rattle.bundle_model.specs.Rules.{is_empty, has_tile, shares_tile, is_slot, ascends, has_slots, has_region, image_fits, has_image, has_entry, is_kind, has_trace, has_ports, breaks, first_rule}
 use Rattle.bundle_model.specs.Bundle.{part_of, pair_of, bundle_of}
 use Rattle.bundle_model.specs.WellFormed.{IsWellFormedPart, IsWellFormed}
 use Rattle.bundle_model.specs.declared.raw.RawPart.{RawPart}

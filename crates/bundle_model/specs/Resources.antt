@@ -13,8 +13,8 @@ use Rattle.bundle_model.specs.declared.resource.Resource.TheVariants.{Partition,
 -- what a part holds: its partition slots in ascending order, its region, its ports
 abbrev pub part_resources : Part → List Resource
 part_resources part =
-    map (λ slot. Partition part.tile slot) (slots_of part.slots)
-    ++ Span part.tile part.region.base part.region.len ∷ map (λ port. Port part.tile port) part.ports
+    map (Partition part.tile) (slots_of part.slots)
+    ++ Span part.tile part.region.base part.region.len ∷ map (Port part.tile) part.ports
 
 -- the slots of the links of a path that a flit passes which reaches the first of them in slot `at`
 -- and each next one a slot later, in tables of so many slots

@@ -1,5 +1,10 @@
 //! The parts and channels of an application.
 
+ghost use Rattle.std.specs.Prelude.{◌≡◌, ◌<◌, ◌==◌};
+ghost use Rattle.std.specs.Int.{bit_at};
+ghost use Rattle.soc_base.specs.Time.{is_among};
+ghost use Rattle.bundle_model.specs.Sets.{slots_of};
+
 use soc_base::{Items, Region};
 
 /// One end of a channel pair.
@@ -53,6 +58,17 @@ pub struct Part {
     pub kinds: u8,
     /// The ports that it holds, in the order of the file.
     pub ports: Items<u8>,
+}
+
+impl Part {
+    /// Answers whether the part has a partition slot, counted from 0 to 15.
+    pub fn has_slot(&self, slot: u8) -> bool
+        requires { slot < 16 }
+        ensures among { result ≡ is_among slot (slots_of self.now.slots) }
+        ensures bit { result ≡ (bit_at self.now.slots slot == 1) }
+    {
+        (self.slots >> slot) % 2 == 1
+    }
 }
 
 /// An application: its parts, on different tiles, and its channel pairs.

@@ -1,10 +1,12 @@
 //! What an application holds of a platform.
 
-ghost use Rattle.std.specs.Prelude.{◌≡◌, ◌+◌, max, min, nat_lt, IfOk};
+ghost use Rattle.std.specs.Prelude.{◌≡◌, ◌<◌, ◌+◌, ◌++◌, max, min, map, nat_lt, IfOk, OnOk};
 ghost use Rattle.bundle_model.specs.WellFormed.{IsWellFormed};
-ghost use Rattle.bundle_model.specs.Resources.{resources_of, meets_of, shares_byte};
+ghost use Rattle.bundle_model.specs.Resources.{part_resources, resources_of, meets_of, shares_byte};
+ghost use Rattle.bundle_model.specs.Sets.{slots_of, slots_at};
+ghost use Rattle.bundle_model.specs.declared.resource.Resource.TheVariants.{Partition, Port};
 
-use crate::bundle::Bundle;
+use crate::bundle::{Bundle, Part};
 use platform_model::Platform;
 use soc_base::NoMemory;
 use std::alloc::Global;
@@ -102,5 +104,56 @@ pub fn resources(
     requires { IsWellFormed platform.now bundle.now }
     ensures { IfOk result (λ list. list.items ≡ resources_of platform.now bundle.now) }
 {
-    Err(NoMemory)
+    let mut list = Vec::new(alloc);
+    for part in bundle.parts.as_slice() {
+        add_part(&mut list, part)?;
+    }
+    Ok(list)
+}
+
+// Appends what a part holds.
+fn add_part(list: &mut Vec<Resource>, part: &Part) -> Result<(), NoMemory>
+    ensures { OnOk result (list.new.items ≡ list.old.items ++ part_resources part.now) }
+{
+    add_slots(list, part)?;
+    list.push(Resource::Span {
+        tile: part.tile,
+        base: part.region.base,
+        len: part.region.len,
+    })?;
+    add_ports(list, part.tile, part.ports.as_slice())
+}
+
+// Appends a part's partition slots.
+fn add_slots(list: &mut Vec<Resource>, part: &Part) -> Result<(), NoMemory>
+    ensures { OnOk result (list.new.items ≡ list.old.items ++ map (Partition part.now.tile) (slots_of part.now.slots)) }
+{
+    for slot in 0..16 {
+        add_slot(list, part, slot)?;
+    }
+    Ok(())
+}
+
+// Appends a partition slot, if the part has it.
+fn add_slot(list: &mut Vec<Resource>, part: &Part, slot: u8) -> Result<(), NoMemory>
+    requires { slot < 16 }
+    ensures { OnOk result (list.new.items ≡ list.old.items ++ map (Partition part.now.tile) (slots_at part.now.slots slot)) }
+{
+    if part.has_slot(slot) {
+        list.push(Resource::Partition {
+            tile: part.tile,
+            slot,
+        })?;
+    }
+    Ok(())
+}
+
+// Appends the ports of a tile that a part holds.
+fn add_ports(list: &mut Vec<Resource>, tile: u8, ports: &[u8]) -> Result<(), NoMemory>
+    ensures { OnOk result (list.new.items ≡ list.old.items ++ map (Port tile) ports.now) }
+{
+    for port in ports {
+        list.push(Resource::Port { tile, port: *port })?;
+    }
+    Ok(())
 }

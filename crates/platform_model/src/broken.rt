@@ -139,3 +139,86 @@ fn are_in_range(costs: &RawCosts) -> bool
     ];
     all.iter().all(|cost| is_between(*cost, 1, 64))
 }
+
+#[cfg(test)]
+mod tests {
+    use super::*;
+    use soc_base::Items;
+    use std::test::Fail;
+
+    fn link(numbers: [i64; 4]) -> RawLink {
+        RawLink {
+            from: numbers[0],
+            out: numbers[1],
+            to: numbers[2],
+            input: numbers[3],
+        }
+    }
+
+    #[test]
+    fn judges_links(rt: HostRuntime) {
+        // two links, and whether on two tiles each joins tiles, each has a router's ports, two
+        // leave alike and two enter alike
+        let cases = [
+            ([0, 0, 1, 6], [1, 6, 0, 0], [true, true, false, false]),
+            ([0, 0, 2, 6], [1, 6, 0, 0], [false, true, false, false]),
+            ([-1, 0, 1, 6], [1, 6, 0, 0], [false, true, false, false]),
+            ([0, 0, 1, 6], [1, 6, 1, 0], [false, true, false, false]),
+            ([0, 7, 1, 6], [1, 6, 0, 0], [true, false, false, false]),
+            ([0, 0, 1, -1], [1, 6, 0, 0], [true, false, false, false]),
+            ([0, 3, 1, 6], [0, 3, 1, 5], [true, true, true, false]),
+            ([0, 3, 1, 6], [0, 4, 1, 6], [true, true, false, true]),
+            ([0, 3, 1, 3], [1, 3, 0, 3], [true, true, false, false]),
+        ];
+        for (one, other, [joined, within, left, entered]) in cases {
+            let links = [link(one), link(other)];
+            assert_eq!(rt; join_tiles(2, &links), joined, "at {one:?} {other:?}");
+            assert_eq!(rt; have_router_ports(&links), within, "at {one:?} {other:?}");
+            assert_eq!(rt; leave_alike(&links), left, "at {one:?} {other:?}");
+            assert_eq!(rt; enter_alike(&links), entered, "at {one:?} {other:?}");
+        }
+    }
+
+    #[test]
+    fn counts_links(rt: HostRuntime) -> Result<(), Fail> {
+        for (count, broken) in [(128, false), (129, true)] {
+            let mut links = Items::new(rt.alloc());
+            for _ in 0..count {
+                links.push(link([0, 0, 1, 0]))?;
+            }
+            assert_eq!(rt;
+                is_broken(PRule::P9, &with_links(links)),
+                broken,
+                "at {count}"
+            );
+        }
+        Ok(())
+    }
+
+    fn with_links(links: Items<RawLink>) -> RawPlatform {
+        RawPlatform {
+            tiles: 2,
+            mem_bytes: 4096,
+            slot_cycles: 8,
+            table_slots: 8,
+            kernel_cycles: 72,
+            partition_cycles: 56,
+            partition_slots: 2,
+            ports: 2,
+            queue: 8,
+            links,
+            costs: RawCosts {
+                integer: 1,
+                mul: 3,
+                div: 34,
+                load: 2,
+                store: 2,
+                taken: 3,
+                untaken: 1,
+                jump: 3,
+                device: 4,
+                system: 1,
+            },
+        }
+    }
+}

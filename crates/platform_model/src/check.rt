@@ -119,3 +119,132 @@ fn link_of(raw: &RawLink) -> Link
         input: raw.input as u8,
     }
 }
+
+#[cfg(test)]
+mod tests {
+    use super::*;
+    use crate::rules::PRule;
+    use std::test::Fail;
+
+    const COSTS: RawCosts = RawCosts {
+        integer: 1,
+        mul: 3,
+        div: 34,
+        load: 2,
+        store: 2,
+        taken: 3,
+        untaken: 1,
+        jump: 3,
+        device: 4,
+        system: 1,
+    };
+
+    const NUMBERS: [i64; 9] = [1, 4096, 8, 8, 72, 56, 2, 2, 8];
+
+    fn raw(alloc: Global, numbers: [i64; 9], costs: RawCosts) -> RawPlatform {
+        RawPlatform {
+            tiles: numbers[0],
+            mem_bytes: numbers[1],
+            slot_cycles: numbers[2],
+            table_slots: numbers[3],
+            kernel_cycles: numbers[4],
+            partition_cycles: numbers[5],
+            partition_slots: numbers[6],
+            ports: numbers[7],
+            queue: numbers[8],
+            links: Items::new(alloc),
+            costs,
+        }
+    }
+
+    // The rule that a platform's file breaks, if it breaks one.
+    fn judged(alloc: Global, raw: &RawPlatform) -> Result<Option<PRule>, Fail> {
+        match Platform::check(alloc, raw) {
+            Ok(_) => Ok(None),
+            Err(PlatformFault::Rule(rule)) => Ok(Some(rule)),
+            Err(PlatformFault::NoMemory) => Err(Fail::from(PlatformFault::NoMemory)),
+        }
+    }
+
+    #[test]
+    fn keeps_the_numbers(rt: HostRuntime) -> Result<(), Fail> {
+        let raw = raw(rt.alloc(), [1, 4096, 8, 9, 72, 56, 2, 3, 7], COSTS);
+        let platform = Platform::check(rt.alloc(), &raw)?;
+        assert_eq!(rt; platform.tiles, 1);
+        assert_eq!(rt; platform.mem_bytes, 4096);
+        assert_eq!(rt; platform.slot_cycles, 8);
+        assert_eq!(rt; platform.table_slots, 9);
+        assert_eq!(rt; platform.kernel_cycles, 72);
+        assert_eq!(rt; platform.partition_cycles, 56);
+        assert_eq!(rt; platform.partition_slots, 2);
+        assert_eq!(rt; platform.ports, 3);
+        assert_eq!(rt; platform.queue, 7);
+        assert!(rt; platform.links.is_empty());
+        assert_eq!(rt; platform.costs.div, 34);
+        assert_eq!(rt; platform.costs.device, 4);
+        Ok(())
+    }
+
+    #[test]
+    fn judges_numbers(rt: HostRuntime) -> Result<(), Fail> {
+        // a number's place, its value and the rule that it breaks
+        let cases = [
+            (0, 0, Some(PRule::P4)),
+            (0, 2, Some(PRule::P4)),
+            (0, 33, Some(PRule::P4)),
+            (1, 0, Some(PRule::P5)),
+            (1, 16, None),
+            (1, 24, Some(PRule::P5)),
+            (1, 1_048_576, None),
+            (1, 1_048_592, Some(PRule::P5)),
+            (2, 0, Some(PRule::P6)),
+            (2, 64, None),
+            (2, 65, Some(PRule::P6)),
+            (3, 0, Some(PRule::P6)),
+            (3, 65, Some(PRule::P6)),
+            (4, 65, Some(PRule::P7)),
+            (4, 66, None),
+            (4, 4097, Some(PRule::P7)),
+            (5, 0, Some(PRule::P7)),
+            (5, 65_537, Some(PRule::P7)),
+            (6, 0, Some(PRule::P7)),
+            (6, 17, Some(PRule::P7)),
+            (7, -1, Some(PRule::P8)),
+            (7, 17, Some(PRule::P8)),
+            (8, 0, Some(PRule::P8)),
+            (8, 63, None),
+            (8, 64, Some(PRule::P8)),
+        ];
+        for (place, value, rule) in cases {
+            let mut numbers = NUMBERS;
+            if let Some(number) = numbers.get_mut(place) {
+                *number = value;
+            }
+            let raw = raw(rt.alloc(), numbers, COSTS);
+            assert_eq!(rt; judged(rt.alloc(), &raw)?, rule, "{value} at {place}");
+        }
+        Ok(())
+    }
+
+    #[test]
+    fn judges_in_order(rt: HostRuntime) -> Result<(), Fail> {
+        let numbers = [1, 24, 8, 8, 72, 56, 2, 2, 64];
+        let low = RawCosts {
+            integer: 0,
+            ..COSTS
+        };
+        let high = RawCosts {
+            system: 65,
+            ..COSTS
+        };
+        for (raw, rule) in [
+            (raw(rt.alloc(), NUMBERS, COSTS), None),
+            (raw(rt.alloc(), NUMBERS, low), Some(PRule::P12)),
+            (raw(rt.alloc(), NUMBERS, high), Some(PRule::P12)),
+            (raw(rt.alloc(), numbers, high), Some(PRule::P5)),
+        ] {
+            assert_eq!(rt; judged(rt.alloc(), &raw)?, rule);
+        }
+        Ok(())
+    }
+}
