@@ -8,6 +8,24 @@ use Rattle.toml_keys.specs.declared.key.Kind.TheVariants as kind
 use Rattle.toml_keys.specs.declared.key.Shape.{Shape}
 use Rattle.toml_keys.specs.declared.key.Shape.TheVariants as shape
 
+abbrev pub integer_shape : Shape
+integer_shape = shape.One kind.Integer
+
+abbrev pub text_shape : Shape
+text_shape = shape.One kind.Text
+
+abbrev pub table_shape : Shape
+table_shape = shape.One kind.Table
+
+abbrev pub integers_shape : Shape
+integers_shape = shape.ListOf kind.Integer
+
+abbrev pub texts_shape : Shape
+texts_shape = shape.ListOf kind.Text
+
+abbrev pub tables_shape : Shape
+tables_shape = shape.ListOf kind.Table
+
 -- a key of a table
 pub record KeyRule : Type 0 where
   pub name : List ℕ
@@ -48,10 +66,15 @@ abbrev pub is_key : List KeyRule → List ℕ → Bool
 is_key keys name = list_any (λ key. bytes_eq key.name name) keys
 
 -- each key of a table is in the list
-abbrev pub has_only : List KeyRule → Members → Bool
+unfoldable pub has_only : List KeyRule → Members → Bool
 has_only keys no_members = true
 has_only keys (member name d ms) = is_key keys name && has_only keys ms
 
 -- a table has each required key of the list, and what stands at a key of the list has its shape
-abbrev pub has_types : List KeyRule → Members → Bool
+unfoldable pub has_types : List KeyRule → Members → Bool
 has_types keys ms = list_all (λ key. fits_rule key (get_member key.name ms)) keys
+
+-- a value, if it is a table, passes a test of its members
+abbrev pub if_table : (Members → Bool) → Data → Bool
+if_table test (table ms) = test ms
+if_table test _ = true

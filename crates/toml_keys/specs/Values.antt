@@ -4,7 +4,7 @@ use Rattle.std.specs.Prelude.{ℕ, ℤ, pos, List, [], ◌∷◌, option_and_the
 use Rattle.toml.specs.Data.{string, integer, table, Items, no_items, item, Members, no_members, get_member, as_integer, as_str, as_array, as_table}
 
 -- the integer at a key, or else a default
-abbrev pub integer_or : List ℕ → ℤ → Members → ℤ
+unfoldable pub integer_or : List ℕ → ℤ → Members → ℤ
 integer_or name default ms = unwrap_or (option_and_then as_integer (get_member name ms)) default
 
 -- the integer at a key that holds one
@@ -12,15 +12,15 @@ abbrev pub integer_at : List ℕ → Members → ℤ
 integer_at name ms = integer_or name (pos 0) ms
 
 -- the text at a key that holds one
-abbrev pub text_at : List ℕ → Members → List ℕ
+unfoldable pub text_at : List ℕ → Members → List ℕ
 text_at name ms = unwrap_or (option_and_then as_str (get_member name ms)) []
 
 -- the members of the table at a key, or none
-abbrev pub table_at : List ℕ → Members → Members
+unfoldable pub table_at : List ℕ → Members → Members
 table_at name ms = unwrap_or (option_and_then as_table (get_member name ms)) no_members
 
 -- the items of the array at a key, or none
-abbrev pub items_at : List ℕ → Members → Items
+unfoldable pub items_at : List ℕ → Members → Items
 items_at name ms = unwrap_or (option_and_then as_array (get_member name ms)) no_items
 
 -- the integers among the items
@@ -42,11 +42,11 @@ tables_of (item (table ms) ds) = ms ∷ tables_of ds
 tables_of (item _ ds) = tables_of ds
 
 -- the integers, the texts and the tables of the array at a key, in the array's order
-abbrev pub integers_at : List ℕ → Members → List ℤ
+unfoldable pub integers_at : List ℕ → Members → List ℤ
 integers_at name ms = integers_of (items_at name ms)
 
-abbrev pub texts_at : List ℕ → Members → List (List ℕ)
+unfoldable pub texts_at : List ℕ → Members → List (List ℕ)
 texts_at name ms = texts_of (items_at name ms)
 
-abbrev pub tables_at : List ℕ → Members → List Members
+unfoldable pub tables_at : List ℕ → Members → List Members
 tables_at name ms = tables_of (items_at name ms)

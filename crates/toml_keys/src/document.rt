@@ -1,9 +1,8 @@
 //! The document that the bytes of a file are.
 
 ghost use Rattle.std.specs.Prelude.{◌≡◌, IfOk};
-ghost use Rattle.toml.specs.Data.{Members};
 ghost use Rattle.toml.specs.View.{table_view};
-ghost use Rattle.toml_keys.specs.Document.{IsDocument};
+ghost use Rattle.toml_keys.specs.Document.{Reads};
 
 use std::alloc::Global;
 use thiserror::Error;
@@ -25,8 +24,8 @@ pub enum DocumentFault {
 
 /// Reads the document that the bytes of a file are. Refuses bytes that are none.
 pub fn read_document(alloc: Global, bytes: &[u8]) -> Result<Table, DocumentFault>
-    ensures value { IfOk result (λ table. IsDocument bytes.now (table_view table)) }
-    ensures refused { result ≡ Err DocumentFault.NoDocument → (ms : Members) → ¬ (IsDocument bytes.now ms) }
+    ensures value { IfOk result (λ table. Reads bytes.now (Some (table_view table))) }
+    ensures refused { result ≡ Err DocumentFault.NoDocument → Reads bytes.now None }
 {
     if bytes.len() > DOCUMENT_LIMIT {
         return Err(DocumentFault::NoDocument);

@@ -26,6 +26,21 @@ pub enum Shape {
     ListOf(Kind),
 }
 
+impl Shape {
+    /// An integer.
+    pub const INTEGER: Shape = Shape::One(Kind::Integer);
+    /// A string.
+    pub const TEXT: Shape = Shape::One(Kind::Text);
+    /// A table.
+    pub const TABLE: Shape = Shape::One(Kind::Table);
+    /// An array of integers.
+    pub const INTEGERS: Shape = Shape::ListOf(Kind::Integer);
+    /// An array of strings.
+    pub const TEXTS: Shape = Shape::ListOf(Kind::Text);
+    /// An array of tables.
+    pub const TABLES: Shape = Shape::ListOf(Kind::Table);
+}
+
 /// A key of a table: its name, the shape of its value, and whether it must be there.
 #[derive(Drop)]
 pub struct Key {

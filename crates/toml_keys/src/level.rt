@@ -5,7 +5,7 @@ ghost use Rattle.std.specs.List.{list_all, list_any};
 ghost use Rattle.std.specs.Str.{bytes_eq};
 ghost use Rattle.toml.specs.Data.{get_member};
 ghost use Rattle.toml.specs.View.{view, items_view, table_view};
-ghost use Rattle.toml_keys.specs.Keys.{is_of, all_of, fits, fits_rule, is_key, has_only, has_types};
+ghost use Rattle.toml_keys.specs.Keys.{is_of, all_of, fits, fits_rule, is_key, has_only, has_types, if_table};
 ghost use Rattle.toml_keys.specs.Level.{level_members};
 ghost use Rattle.toml_keys.specs.Values.{integer_or, integer_at, text_at, table_at, items_at, integers_of, integers_at, texts_of, texts_at, tables_of, tables_at};
 
@@ -69,6 +69,7 @@ fn is_key(keys: &[Key], name: &str) -> bool
 }
 
 // Whether each key of a table is in the list.
+#[tactic(auto, unfolding(crate::specs::Keys::has_only))]
 fn table_has_only(table: &Table, keys: &[Key]) -> bool
     ensures { result ≡ has_only keys.now (table_view table.now) }
 {
@@ -102,6 +103,7 @@ impl<'a> Level<'a> {
     }
 
     /// Answers whether each key of the table is in the list.
+    #[tactic(auto, unfolding(crate::specs::Keys::has_only))]
     pub fn has_only(&self, keys: &[Key]) -> bool
         ensures { result ≡ has_only keys.now (level_members self.now) }
     {
@@ -113,11 +115,40 @@ impl<'a> Level<'a> {
 
     /// Answers whether each required key of the list is there, and each key that is there has a
     /// value of its shape.
+    #[tactic(auto, unfolding(crate::specs::Keys::has_types))]
     pub fn has_types(&self, keys: &[Key]) -> bool
         ensures { result ≡ has_types keys.now (level_members self.now) }
     {
         keys.iter()
             .all(|key| fits_rule(key, self.entry(key.name())))
+    }
+
+    /// Answers whether each table of the array at a key has only keys of the list. Items that are
+    /// no tables are passed over.
+    #[tactic(auto, using(crate::proofs::Tables::all_so_far, crate::proofs::Tables::one_fails), unfolding(crate::specs::Values::tables_at))]
+    pub fn tables_have_only(&self, name: &str, keys: &[Key]) -> bool
+        ensures { result ≡ list_all (has_only keys.now) (tables_at name.now (level_members self.now)) }
+    {
+        for value in self.items(name) {
+            if !value_has_only(value, keys) {
+                return false;
+            }
+        }
+        true
+    }
+
+    /// Answers whether each table of the array at a key has the types of the list. Items that are
+    /// no tables are passed over.
+    #[tactic(auto, using(crate::proofs::Tables::all_so_far, crate::proofs::Tables::one_fails), unfolding(crate::specs::Values::tables_at))]
+    pub fn tables_have_types(&self, name: &str, keys: &[Key]) -> bool
+        ensures { result ≡ list_all (has_types keys.now) (tables_at name.now (level_members self.now)) }
+    {
+        for value in self.items(name) {
+            if !value_has_types(value, keys) {
+                return false;
+            }
+        }
+        true
     }
 
     // What stands at a key.
@@ -131,6 +162,7 @@ impl<'a> Level<'a> {
     }
 
     // The items of the array at a key, or none.
+    #[tactic(auto, unfolding(crate::specs::Values::items_at))]
     fn items(&self, name: &str) -> &'a [Value]
         ensures { items_view result.now ≡ items_at name.now (level_members self.now) }
     {
@@ -141,6 +173,7 @@ impl<'a> Level<'a> {
     }
 
     /// Answers the integer at a key, or the default where no integer stands there.
+    #[tactic(auto, unfolding(crate::specs::Values::integer_or))]
     pub fn integer_or(&self, name: &str, default: i64) -> i64
         ensures { result ≡ integer_or name.now default (level_members self.now) }
     {
@@ -158,6 +191,7 @@ impl<'a> Level<'a> {
     }
 
     /// Answers the text at a key, or the empty text where no text stands there.
+    #[tactic(auto, unfolding(crate::specs::Values::text_at))]
     pub fn text(&self, name: &str) -> &'a str
         ensures { result.now ≡ text_at name.now (level_members self.now) }
     {
@@ -168,6 +202,7 @@ impl<'a> Level<'a> {
     }
 
     /// Answers the table at a key, or the empty table where no table stands there.
+    #[tactic(auto, unfolding(crate::specs::Values::table_at))]
     pub fn table(&self, name: &str) -> Level<'a>
         ensures { level_members result ≡ table_at name.now (level_members self.now) }
     {
@@ -180,6 +215,7 @@ impl<'a> Level<'a> {
     }
 
     /// Answers the integers of the array at a key, in order: none where no array stands there.
+    #[tactic(auto, unfolding(crate::specs::Values::integers_at))]
     pub fn integers(&self, alloc: Global, name: &str) -> Result<Items<i64>, NoMemory>
         ensures { IfOk result (λ r. r ≡ integers_at name.now (level_members self.now)) }
     {
@@ -193,6 +229,7 @@ impl<'a> Level<'a> {
     }
 
     /// Answers the texts of the array at a key, in order: none where no array stands there.
+    #[tactic(auto, unfolding(crate::specs::Values::texts_at))]
     pub fn texts(&self, alloc: Global, name: &str) -> Result<Items<Text>, NoMemory>
         ensures { IfOk result (λ r. r ≡ texts_at name.now (level_members self.now)) }
     {
@@ -206,6 +243,7 @@ impl<'a> Level<'a> {
     }
 
     /// Answers the tables of the array at a key, in order: none where no array stands there.
+    #[tactic(auto, unfolding(crate::specs::Values::tables_at))]
     pub fn tables(&self, alloc: Global, name: &str) -> Result<Vec<Level<'a>>, NoMemory>
         ensures { IfOk result (λ r. map level_members r.items ≡ tables_at name.now (level_members self.now)) }
     {
@@ -219,14 +257,32 @@ impl<'a> Level<'a> {
     }
 }
 
+// Whether a value, if it is a table, has only keys of the list.
+fn value_has_only(value: &Value, keys: &[Key]) -> bool
+    ensures { result ≡ if_table (has_only keys.now) (view value.now) }
+{
+    match value {
+        Value::Table(table) => Level::new(table).has_only(keys),
+        _ => true,
+    }
+}
+
+// Whether a value, if it is a table, has the types of the list.
+fn value_has_types(value: &Value, keys: &[Key]) -> bool
+    ensures { result ≡ if_table (has_types keys.now) (view value.now) }
+{
+    match value {
+        Value::Table(table) => Level::new(table).has_types(keys),
+        _ => true,
+    }
+}
+
 #[cfg(test)]
 mod tests {
     use super::*;
     use crate::key::{optional, required};
     use crate::read_document;
     use std::test::Fail;
-
-    const INTEGER: Shape = Shape::One(Kind::Integer);
 
     #[test]
     fn reads_what_stands_at_a_key(rt: HostRuntime) -> Result<(), Fail> {
@@ -266,10 +322,7 @@ mod tests {
             (b"a = 1\nb = \"x\"\n", true, false),
             (b"a.a = 1\nB = 1\n", false, false),
         ];
-        let keys = [
-            required("a", INTEGER),
-            optional("b", Shape::ListOf(Kind::Text)),
-        ];
+        let keys = [required("a", Shape::INTEGER), optional("b", Shape::TEXTS)];
         for (bytes, known, typed) in cases {
             let table = read_document(rt.alloc(), bytes)?;
             let level = Level::new(&table);
