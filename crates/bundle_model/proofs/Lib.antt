@@ -1,0 +1,4 @@
+pub mod Slots
+pub mod SlotSets
+pub mod Unbroken
+pub mod Listing

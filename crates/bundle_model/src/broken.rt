@@ -1,0 +1,239 @@
+//! Whether the raw values of a bundle file break a rule, and the least that they break.
+
+ghost use Rattle.std.specs.Prelude.{◌≡◌, ◌*◌, ◌+ℤ◌, pos, int_le};
+ghost use Rattle.std.specs.List.{list_any, list_all};
+ghost use Rattle.std.specs.Str.{bytes_eq};
+ghost use Rattle.platform_model.specs.Twins.{has_twin};
+ghost use Rattle.bundle_model.specs.Rules.{has_tile, shares_tile, is_slot, ascends, has_slots, has_region, has_image, has_entry, is_kind, has_trace, has_ports, breaks, first_rule};
+
+use crate::raw::{RawBundle, RawPart};
+use crate::rules::BRule;
+use platform_model::{Platform, divides, is_between};
+use soc_base::Text;
+
+/// The rules of the raw values, in their order.
+const VALUE_RULES: [BRule; 11] = [
+    BRule::B4,
+    BRule::B5,
+    BRule::B6,
+    BRule::B7,
+    BRule::B8,
+    BRule::B9,
+    BRule::B10,
+    BRule::B11,
+    BRule::B12,
+    BRule::B13,
+    BRule::B14,
+];
+
+/// Answers the least rule of B4 to B14 that the raw values break on a platform.
+pub fn first_broken(raw: &RawBundle, platform: &Platform) -> Option<BRule>
+    ensures { result ≡ first_rule platform.now raw.now }
+{
+    VALUE_RULES
+        .iter()
+        .copied()
+        .find(|rule| is_broken(*rule, raw, platform))
+}
+
+// Whether the raw values break a rule on a platform.
+fn is_broken(rule: BRule, raw: &RawBundle, platform: &Platform) -> bool
+    ensures { result ≡ breaks rule platform.now raw.now }
+{
+    let parts = raw.parts.as_slice();
+    match rule {
+        BRule::B4 => raw.version != 1,
+        BRule::B5 => parts.len() == 0 || !have_tiles(parts, platform) || share_tile(parts),
+        BRule::B6 => !have_slots(parts, platform),
+        BRule::B7 => !have_regions(parts, platform),
+        BRule::B8 => !have_images(parts),
+        BRule::B9 => !have_entries(parts),
+        BRule::B10 => !have_traces(parts),
+        BRule::B11 => have_ports(parts) || raw.pairs.len() != 0,
+        _ => false,
+    }
+}
+
+// Whether each part stands on a tile of the platform.
+fn have_tiles(parts: &[RawPart], platform: &Platform) -> bool
+    ensures { result ≡ list_all (has_tile platform.now) parts.now }
+{
+    let tiles = i64::from(platform.tiles);
+    parts.iter().all(|part| 0 <= part.tile && part.tile < tiles)
+}
+
+// Whether two parts stand on one tile.
+fn share_tile(parts: &[RawPart]) -> bool
+    ensures { result ≡ has_twin shares_tile parts.now }
+{
+    match parts {
+        [] => false,
+        [one, rest @ ..] => shares_with(one, rest) || share_tile(rest),
+    }
+}
+
+// Whether a part stands on the tile of one of the others.
+fn shares_with(one: &RawPart, others: &[RawPart]) -> bool
+    ensures { result ≡ list_any (shares_tile one.now) others.now }
+{
+    others.iter().any(|other| one.tile == other.tile)
+}
+
+// Whether each part's slots are partition slots of the platform.
+fn have_slots(parts: &[RawPart], platform: &Platform) -> bool
+    ensures { result ≡ list_all (has_slots platform.now) parts.now }
+{
+    parts.iter().all(|part| are_slots(part, platform))
+}
+
+// Whether the part has slots, and they are partition slots of the platform, ascending.
+fn are_slots(part: &RawPart, platform: &Platform) -> bool
+    ensures { result ≡ has_slots platform.now part.now }
+{
+    let slots = part.slots.as_slice();
+    slots.len() != 0 && exist(slots, platform) && ascend(slots)
+}
+
+// Whether each number is a partition slot of the platform.
+fn exist(slots: &[i64], platform: &Platform) -> bool
+    ensures { result ≡ list_all (is_slot platform.now) slots.now }
+{
+    let count = i64::from(platform.partition_slots);
+    slots.iter().all(|slot| 0 <= *slot && *slot < count)
+}
+
+// Whether each number is below the next.
+fn ascend(numbers: &[i64]) -> bool
+    ensures { result ≡ ascends numbers.now }
+{
+    match numbers {
+        [number, rest @ ..] => match rest {
+            [next, ..] => number < next && ascend(rest),
+            [] => true,
+        },
+        [] => true,
+    }
+}
+
+// Whether each part's region lies in the tile's memory.
+fn have_regions(parts: &[RawPart], platform: &Platform) -> bool
+    ensures { result ≡ list_all (has_region platform.now) parts.now }
+{
+    parts.iter().all(|part| is_region(part, platform))
+}
+
+// Whether the part's region lies in the tile's memory, by multiples of 16.
+fn is_region(part: &RawPart, platform: &Platform) -> bool
+    ensures { result ≡ has_region platform.now part.now }
+{
+    0 <= part.base
+        && divides(16, part.base)
+        && 16 <= part.len
+        && divides(16, part.len)
+        && ends_within(part.base, part.len, platform.mem_bytes)
+}
+
+// Whether so many bytes from a place on end within a memory.
+fn ends_within(base: i64, len: i64, mem_bytes: u32) -> bool
+    ensures { result ≡ int_le (base +ℤ len) (pos mem_bytes) }
+{
+    base.saturating_add(len) <= i64::from(mem_bytes)
+}
+
+// Whether each part's image is there and fits.
+fn have_images(parts: &[RawPart]) -> bool
+    ensures { result ≡ list_all has_image parts.now }
+{
+    parts.iter().all(|part| is_image(part))
+}
+
+// Whether there is an image, and it fits the part's region.
+fn is_image(part: &RawPart) -> bool
+    ensures { result ≡ has_image part.now }
+{
+    match &part.image {
+        Some(words) => fit(words.len(), part.len),
+        None => false,
+    }
+}
+
+// Whether so many words fit in so many bytes.
+fn fit(words: usize, len: i64) -> bool
+    ensures { result ≡ int_le (pos (4 * words)) len }
+{
+    match u64::try_from(len) {
+        Ok(bytes) => words as u64 <= bytes / 4,
+        Err(_) => false,
+    }
+}
+
+// Whether each part begins at a word of its region.
+fn have_entries(parts: &[RawPart]) -> bool
+    ensures { result ≡ list_all has_entry parts.now }
+{
+    parts.iter().all(|part| is_entry(part))
+}
+
+// Whether the part begins at a word of its region.
+fn is_entry(part: &RawPart) -> bool
+    ensures { result ≡ has_entry part.now }
+{
+    match part.len.checked_sub(4) {
+        Some(last) => is_between(part.entry, 0, last) && divides(4, part.entry),
+        None => false,
+    }
+}
+
+// Whether each part's trace and kinds are in range.
+fn have_traces(parts: &[RawPart]) -> bool
+    ensures { result ≡ list_all has_trace parts.now }
+{
+    parts.iter().all(|part| is_trace(part))
+}
+
+// Whether the part keeps at most 4096 rows, of different kinds.
+fn is_trace(part: &RawPart) -> bool
+    ensures { result ≡ has_trace part.now }
+{
+    let kinds = part.kinds.as_slice();
+    is_between(part.trace, 0, 4096) && are_known(kinds) && !twice(kinds)
+}
+
+// Whether each name is that of a kind of rows.
+fn are_known(names: &[Text]) -> bool
+    ensures { result ≡ list_all is_kind names.now }
+{
+    names.iter().all(|name| is_known(name))
+}
+
+// Whether a name is that of a kind of rows.
+fn is_known(name: &Text) -> bool
+    ensures { result ≡ is_kind name.now }
+{
+    let name = name.as_str();
+    name == "word" || name == "send" || name == "recv" || name == "step"
+}
+
+// Whether a name stands twice.
+fn twice(names: &[Text]) -> bool
+    ensures { result ≡ has_twin bytes_eq names.now }
+{
+    match names {
+        [] => false,
+        [one, rest @ ..] => is_among(one, rest) || twice(rest),
+    }
+}
+
+// Whether a name is one of the others.
+fn is_among(one: &Text, others: &[Text]) -> bool
+    ensures { result ≡ list_any (bytes_eq one.now) others.now }
+{
+    others.iter().any(|other| one.as_str() == other.as_str())
+}
+
+// Whether some part holds a port.
+fn have_ports(parts: &[RawPart]) -> bool
+    ensures { result ≡ list_any has_ports parts.now }
+{
+    parts.iter().any(|part| part.ports.len() != 0)
+}

@@ -1,0 +1,32 @@
+//! Bundles (what an application brings: its parts and its channels), the rules by which their raw
+//! values are judged for a platform, the resources that they hold, and what grants are.
+//!
+//! `specs/` has the meanings: `Sets` (bit sets as lists), `Rules` (the rules B4 to B14 and the
+//! least that is broken), `Bundle` (the bundle that raw values mean), `WellFormed` (what a bundle
+//! is that breaks no rule), `Resources` (what a bundle holds, and which resources meet) and
+//! `Grants` (grants that conflict, and grants that are apart).
+#![tactic(auto)]
+
+/// Whether raw values break a rule.
+mod broken;
+/// The parts and channels of an application.
+mod bundle;
+/// Judging the raw values of a bundle file.
+mod judge;
+/// Making parts of raw values.
+mod part;
+/// The values of a bundle file, before they are judged.
+mod raw;
+/// What an application holds of a platform.
+mod resource;
+/// The rules of bundle files.
+mod rules;
+/// What a run knows beforehand, and what is granted in it.
+mod world;
+
+pub use bundle::{Bundle, Channel, End, Pair, Part};
+pub use judge::check;
+pub use raw::{RawBundle, RawChannel, RawPair, RawPart};
+pub use resource::{Resource, meets, resources};
+pub use rules::{BRule, BundleFault};
+pub use world::{Grant, LoadName, Named, Schedule, World};

@@ -1,0 +1,70 @@
+//! What a run knows beforehand, and what is granted in it.
+
+ghost use Rattle.std.specs.Prelude.{◌≡◌, [], IfOk, vec_capacity};
+
+use crate::bundle::Bundle;
+use crate::rules::BRule;
+use platform_model::Platform;
+use soc_base::{Items, Label, NoMemory, Text};
+use std::alloc::Global;
+
+/// A bundle file by its name, and how it was judged.
+#[derive(Debug, Drop)]
+pub struct Named {
+    /// The file's name.
+    pub name: Text,
+    /// Its bundle, or the least rule that it breaks.
+    pub judged: Result<Bundle, BRule>,
+}
+
+/// The platform, and the bundle files that may be loaded.
+#[derive(Debug, Drop)]
+pub struct World {
+    /// The platform.
+    pub platform: Platform,
+    /// The bundle files.
+    pub catalog: Items<Named>,
+}
+
+/// A load command's name, and the bundle that it asks for.
+#[derive(Clone, Copy, Debug)]
+pub struct LoadName {
+    /// The load's name.
+    pub label: Label,
+    /// The bundle's place in the catalog.
+    pub bundle: u16,
+}
+
+/// An application that was granted.
+#[derive(Clone, Copy, Debug)]
+pub struct Grant {
+    /// The load's name.
+    pub label: Label,
+    /// The bundle's place in the catalog.
+    pub bundle: u16,
+    /// The first slot of the grant.
+    pub start: u64,
+    /// The last slot of the grant; none while it is open.
+    pub end: Option<u64>,
+}
+
+/// The grants of a run, and how far they are settled.
+#[derive(Debug, Drop)]
+pub struct Schedule {
+    /// The grants, in the order in which they were given.
+    pub grants: Vec<Grant>,
+    /// The horizon, in slots: no later command changes what happens before it.
+    pub horizon: u64,
+}
+
+impl Schedule {
+    /// Makes a schedule with no grant, horizon 0 and room for so many grants.
+    pub fn new(alloc: Global, room: u16) -> Result<Schedule, NoMemory>
+        ensures none { IfOk result (λ schedule. schedule.grants.items ≡ []) }
+        ensures room { IfOk result (λ schedule. vec_capacity schedule.grants ≡ room) }
+        ensures begins { IfOk result (λ schedule. schedule.horizon ≡ 0) }
+    {
+        let grants = Vec::with_capacity(alloc, usize::from(room))?;
+        Ok(Schedule { grants, horizon: 0 })
+    }
+}

@@ -1,0 +1,5 @@
+pub mod Limits
+pub mod Twins
+pub mod Links
+pub mod Rules
+pub mod Platform

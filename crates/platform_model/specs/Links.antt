@@ -1,0 +1,29 @@
+-- What is asked of the links of a platform, over their raw numbers.
+use Rattle.std.specs.Prelude.{ℤ, pos, Bool, not, ◌&&◌, int_le, int_lt}
+use Rattle.std.specs.Ordering.{int_eq}
+use Rattle.platform_model.specs.Limits.{is_within}
+use Rattle.platform_model.specs.declared.link.Link.{Link}
+use Rattle.platform_model.specs.declared.raw.RawLink.{RawLink}
+
+-- the raw numbers of a link
+abbrev pub raw_link : Link → RawLink
+raw_link link = record { from = pos link.from; out = pos link.out; to = pos link.to; input = pos link.input }
+
+-- the link leads from one of so many tiles to another
+abbrev pub joins_tiles : ℤ → RawLink → Bool
+joins_tiles tiles link =
+    int_le (pos 0) link.from && int_lt link.from tiles
+    && int_le (pos 0) link.to && int_lt link.to tiles
+    && not (int_eq link.from link.to)
+
+-- the link's ports are those of a router, which are numbered from 0 to 6
+abbrev pub has_router_ports : RawLink → Bool
+has_router_ports link = is_within link.out (pos 0) (pos 6) && is_within link.input (pos 0) (pos 6)
+
+-- two links leave one tile by one port
+abbrev pub leaves_alike : RawLink → RawLink → Bool
+leaves_alike one other = int_eq one.from other.from && int_eq one.out other.out
+
+-- two links enter one tile by one port
+abbrev pub enters_alike : RawLink → RawLink → Bool
+enters_alike one other = int_eq one.to other.to && int_eq one.input other.input

@@ -1,0 +1,38 @@
+//! What instructions cost.
+
+ghost use Rattle.std.specs.Prelude.{◌<◌, ◌≤◌};
+
+/// What instructions cost on a platform, in cycles from 1 to 64.
+#[derive(Clone, Copy, Debug)]
+pub struct Costs {
+    /// An instruction on integers with no row of its own.
+    pub integer: u8,
+    /// A multiplication.
+    pub mul: u8,
+    /// A division or a remainder.
+    pub div: u8,
+    /// A load from the region.
+    pub load: u8,
+    /// A store to the region.
+    pub store: u8,
+    /// A branch that is taken.
+    pub taken: u8,
+    /// A branch that isn't taken.
+    pub untaken: u8,
+    /// A jump.
+    pub jump: u8,
+    /// A load or a store at a device register.
+    pub device: u8,
+    /// FENCE, ECALL and EBREAK.
+    pub system: u8,
+    pub ghost integer_in_range: { (0 < integer) × (integer ≤ 64) },
+    pub ghost mul_in_range: { (0 < mul) × (mul ≤ 64) },
+    pub ghost div_in_range: { (0 < div) × (div ≤ 64) },
+    pub ghost load_in_range: { (0 < load) × (load ≤ 64) },
+    pub ghost store_in_range: { (0 < store) × (store ≤ 64) },
+    pub ghost taken_in_range: { (0 < taken) × (taken ≤ 64) },
+    pub ghost untaken_in_range: { (0 < untaken) × (untaken ≤ 64) },
+    pub ghost jump_in_range: { (0 < jump) × (jump ≤ 64) },
+    pub ghost device_in_range: { (0 < device) × (device ≤ 64) },
+    pub ghost system_in_range: { (0 < system) × (system ≤ 64) },
+}
