@@ -1,0 +1,87 @@
+-- What a platform file means: the rules P1 to P12 over its document, and the numbers that it gives.
+use Rattle.std.specs.Prelude.{◌≡◌, codes, ℕ, pos, Bool, not, ◌&&◌, List, map, Option, Some, None, if◌then◌else◌}
+use Rattle.std.specs.List.{list_all}
+use Rattle.toml.specs.Data.{Members}
+use Rattle.toml_keys.specs.Document.{Reads}
+use Rattle.toml_keys.specs.Keys.{has_only, has_types}
+use Rattle.toml_keys.specs.Values.{integer_at, integer_or, table_at, tables_at}
+use Rattle.platform_model.specs.Platform.{raw_of}
+use Rattle.platform_model.specs.Rules.{first_rule}
+use Rattle.platform_model.specs.declared.platform.Platform.{Platform}
+use Rattle.platform_model.specs.declared.raw.RawLink.{RawLink}
+use Rattle.platform_model.specs.declared.raw.RawCosts.{RawCosts}
+use Rattle.platform_model.specs.declared.raw.RawPlatform.{RawPlatform}
+use Rattle.platform_model.specs.declared.rules.PRule.{PRule}
+use Rattle.platform_model.specs.declared.rules.PRule.TheVariants.{P1, P2, P3}
+use Rattle.platform_file.specs.Format.{top_keys, link_keys, cost_keys}
+
+-- each key stands in the table of its place: at the top, in each link and in the costs
+unfoldable pub knows_keys : Members → Bool
+knows_keys ms =
+    has_only top_keys ms
+    && list_all (has_only link_keys) (tables_at (codes "link") ms)
+    && has_only cost_keys (table_at (codes "costs") ms)
+
+-- each required key is there, and each key has its type
+unfoldable pub knows_types : Members → Bool
+knows_types ms =
+    has_types top_keys ms
+    && list_all (has_types link_keys) (tables_at (codes "link") ms)
+    && has_types cost_keys (table_at (codes "costs") ms)
+
+-- the numbers of a link
+unfoldable pub link_of : Members → RawLink
+link_of ms = record {
+  from = integer_at (codes "from") ms;
+  out = integer_at (codes "out") ms;
+  to = integer_at (codes "to") ms;
+  input = integer_at (codes "input") ms;
+}
+
+-- the costs, each with its default
+unfoldable pub costs_of : Members → RawCosts
+costs_of ms = record {
+  integer = integer_or (codes "integer") (pos 1) ms;
+  mul = integer_or (codes "mul") (pos 3) ms;
+  div = integer_or (codes "div") (pos 34) ms;
+  load = integer_or (codes "load") (pos 2) ms;
+  store = integer_or (codes "store") (pos 2) ms;
+  taken = integer_or (codes "taken") (pos 3) ms;
+  untaken = integer_or (codes "untaken") (pos 1) ms;
+  jump = integer_or (codes "jump") (pos 3) ms;
+  device = integer_or (codes "device") (pos 4) ms;
+  system = integer_or (codes "system") (pos 1) ms;
+}
+
+-- the numbers of a platform file whose keys have their types
+unfoldable pub platform_of : Members → RawPlatform
+platform_of ms = record {
+  tiles = integer_at (codes "tiles") ms;
+  mem_bytes = integer_at (codes "mem_bytes") ms;
+  slot_cycles = integer_at (codes "slot_cycles") ms;
+  table_slots = integer_at (codes "table_slots") ms;
+  kernel_cycles = integer_at (codes "kernel_cycles") ms;
+  partition_cycles = integer_at (codes "partition_cycles") ms;
+  partition_slots = integer_at (codes "partition_slots") ms;
+  ports = integer_at (codes "ports") ms;
+  queue = integer_at (codes "queue") ms;
+  links = map link_of (tables_at (codes "link") ms);
+  costs = costs_of (table_at (codes "costs") ms);
+}
+
+-- the least rule that a file breaks, by what its bytes are: a document or none
+unfoldable pub least_rule : Option Members → Option PRule
+least_rule None = Some P1
+least_rule (Some ms) =
+    if not (knows_keys ms) then Some P2
+    else if not (knows_types ms) then Some P3
+    else first_rule (platform_of ms)
+
+-- the rule is the least that the bytes break
+abbrev pub Breaks : List ℕ → PRule → Type 0
+Breaks bytes rule = (document : Option Members) × Reads bytes document × (least_rule document ≡ Some rule)
+
+-- the bytes break no rule, and give the platform
+abbrev pub Gives : List ℕ → Platform → Type 0
+Gives bytes platform =
+    (ms : Members) × Reads bytes (Some ms) × (least_rule (Some ms) ≡ None) × (raw_of platform ≡ platform_of ms)

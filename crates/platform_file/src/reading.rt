@@ -1,0 +1,287 @@
+//! Reading a platform file: its document, its keys, their types, and then its numbers.
+
+ghost use Rattle.std.specs.Prelude.{◌≡◌, codes, Some, None, IfOk, map};
+ghost use Rattle.toml.specs.View.{table_view};
+ghost use Rattle.toml_keys.specs.Values.{table_at, tables_at};
+ghost use Rattle.toml_keys.specs.Level.{level_members};
+ghost use Rattle.platform_model.specs.Platform.{raw_of};
+ghost use Rattle.platform_file.specs.Reading.{knows_keys, knows_types, link_of, costs_of, platform_of, least_rule, Breaks, Gives};
+
+use crate::format::{cost_keys, link_keys, top_keys};
+use platform_model::{PRule, Platform, PlatformFault, RawCosts, RawLink, RawPlatform};
+use soc_base::{Items, NoMemory};
+use std::alloc::Global;
+use toml::Table;
+use toml_keys::{DocumentFault, Level, read_document};
+
+// Whether each key is one that platform files have.
+#[tactic(auto, unfolding(crate::specs::Reading::knows_keys))]
+fn knows_keys(file: &Level) -> bool
+    ensures { result ≡ knows_keys (level_members file.now) }
+{
+    let top = file.has_only(&top_keys());
+    let links = file.tables_have_only("link", &link_keys());
+    let costs = file.table("costs").has_only(&cost_keys());
+    top && links && costs
+}
+
+// Whether each required key is there, and each key has its type.
+#[tactic(auto, unfolding(crate::specs::Reading::knows_types))]
+fn knows_types(file: &Level) -> bool
+    ensures { result ≡ knows_types (level_members file.now) }
+{
+    let top = file.has_types(&top_keys());
+    let links = file.tables_have_types("link", &link_keys());
+    let costs = file.table("costs").has_types(&cost_keys());
+    top && links && costs
+}
+
+// The numbers of a link.
+#[tactic(auto, unfolding(crate::specs::Reading::link_of))]
+fn link_of(link: &Level) -> RawLink
+    ensures { result ≡ link_of (level_members link.now) }
+{
+    RawLink {
+        from: link.integer("from"),
+        out: link.integer("out"),
+        to: link.integer("to"),
+        input: link.integer("input"),
+    }
+}
+
+// The costs, each with its default.
+#[tactic(auto, unfolding(crate::specs::Reading::costs_of))]
+fn costs_of(costs: &Level) -> RawCosts
+    ensures { result ≡ costs_of (level_members costs.now) }
+{
+    RawCosts {
+        integer: costs.integer_or("integer", 1),
+        mul: costs.integer_or("mul", 3),
+        div: costs.integer_or("div", 34),
+        load: costs.integer_or("load", 2),
+        store: costs.integer_or("store", 2),
+        taken: costs.integer_or("taken", 3),
+        untaken: costs.integer_or("untaken", 1),
+        jump: costs.integer_or("jump", 3),
+        device: costs.integer_or("device", 4),
+        system: costs.integer_or("system", 1),
+    }
+}
+
+// The numbers of links, in order.
+fn links_of(alloc: Global, tables: &[Level]) -> Result<Items<RawLink>, NoMemory>
+    ensures { IfOk result (λ links. links ≡ map link_of (map level_members tables.now)) }
+{
+    let mut links = Items::new(alloc);
+    for table in tables {
+        links.push(link_of(table))?;
+    }
+    Ok(links)
+}
+
+// The numbers of a file whose keys have their types, of which these are its links and its costs.
+#[tactic(auto, unfolding(crate::specs::Reading::platform_of))]
+fn numbers_of(file: &Level, links: Items<RawLink>, costs: RawCosts) -> RawPlatform
+    requires links { links ≡ map link_of (tables_at (codes "link") (level_members file.now)) }
+    requires costs { costs ≡ costs_of (table_at (codes "costs") (level_members file.now)) }
+    ensures { result ≡ platform_of (level_members file.now) }
+{
+    RawPlatform {
+        tiles: file.integer("tiles"),
+        mem_bytes: file.integer("mem_bytes"),
+        slot_cycles: file.integer("slot_cycles"),
+        table_slots: file.integer("table_slots"),
+        kernel_cycles: file.integer("kernel_cycles"),
+        partition_cycles: file.integer("partition_cycles"),
+        partition_slots: file.integer("partition_slots"),
+        ports: file.integer("ports"),
+        queue: file.integer("queue"),
+        links,
+        costs,
+    }
+}
+
+// The numbers of a file whose keys have their types.
+fn platform_of(alloc: Global, file: &Level) -> Result<RawPlatform, NoMemory>
+    ensures { IfOk result (λ raw. raw ≡ platform_of (level_members file.now)) }
+{
+    let tables = file.tables(alloc, "link")?;
+    let links = links_of(alloc, &tables)?;
+    let costs = costs_of(&file.table("costs"));
+    Ok(numbers_of(file, links, costs))
+}
+
+// The platform that a document gives.
+#[tactic(auto, unfolding(crate::specs::Reading::least_rule))]
+fn judge(alloc: Global, table: &Table) -> Result<Platform, PlatformFault>
+    ensures value { IfOk result (λ platform. (least_rule (Some (table_view table.now)) ≡ None) × (raw_of platform ≡ platform_of (table_view table.now))) }
+    ensures rule { (r : _) → result ≡ Err (PlatformFault.Rule r) → least_rule (Some (table_view table.now)) ≡ Some r }
+{
+    let file = Level::new(table);
+    if !knows_keys(&file) {
+        return Err(PlatformFault::Rule(PRule::P2));
+    }
+    if !knows_types(&file) {
+        return Err(PlatformFault::Rule(PRule::P3));
+    }
+    match platform_of(alloc, &file) {
+        Ok(raw) => Platform::check(alloc, &raw),
+        Err(NoMemory) => Err(PlatformFault::NoMemory),
+    }
+}
+
+/// Reads a platform file. Refuses the least rule of P1 to P12 that its bytes break: P1 where they
+/// are no TOML document of at most 4 MiB, P2 where a key isn't one that platform files have, P3
+/// where a required key is missing or a key has another type, and the others as `Platform::check`.
+#[tactic(auto, unfolding(crate::specs::Reading::least_rule))]
+pub fn read_platform(alloc: Global, bytes: &[u8]) -> Result<Platform, PlatformFault>
+    ensures value { IfOk result (λ platform. Gives bytes.now platform) }
+    ensures rule { (r : _) → result ≡ Err (PlatformFault.Rule r) → Breaks bytes.now r }
+{
+    match read_document(alloc, bytes) {
+        Ok(table) => judge(alloc, &table),
+        Err(DocumentFault::NoDocument) => Err(PlatformFault::Rule(PRule::P1)),
+        Err(DocumentFault::NoMemory) => Err(PlatformFault::NoMemory),
+    }
+}
+
+#[cfg(test)]
+mod tests {
+    use super::*;
+    use std::test::Fail;
+
+    // A platform file that keeps each rule, line by line, each with its key.
+    const LINES: [(&str, &str); 9] = [
+        ("tiles", "tiles = 1\n"),
+        ("mem_bytes", "mem_bytes = 4096\n"),
+        ("slot_cycles", "slot_cycles = 8\n"),
+        ("table_slots", "table_slots = 8\n"),
+        ("kernel_cycles", "kernel_cycles = 72\n"),
+        ("partition_cycles", "partition_cycles = 56\n"),
+        ("partition_slots", "partition_slots = 2\n"),
+        ("ports", "ports = 2\n"),
+        ("queue", "queue = 8\n"),
+    ];
+
+    // The file above with another line for a key, and with more lines at its end.
+    fn changed(alloc: Global, key: &str, line: &str, tail: &str) -> Result<String, Fail> {
+        let mut text = String::new(alloc);
+        for (name, kept) in LINES {
+            text.push_str(if name == key { line } else { kept })?;
+        }
+        text.push_str(tail)?;
+        Ok(text)
+    }
+
+    fn rule_of(read: Result<Platform, PlatformFault>) -> Option<PRule> {
+        match read {
+            Err(PlatformFault::Rule(rule)) => Some(rule),
+            _ => None,
+        }
+    }
+
+    #[test]
+    fn gives_the_numbers_as_written(rt: HostRuntime) -> Result<(), Fail> {
+        let text = changed(rt.alloc(), "", "", "[costs]\ndiv = 64\njump = 5\n")?;
+        let platform = read_platform(rt.alloc(), text.as_bytes())?;
+        assert_eq!(rt; platform.tiles, 1);
+        assert_eq!(rt; platform.mem_bytes, 4096);
+        assert_eq!(rt; platform.slot_cycles, 8);
+        assert_eq!(rt; platform.table_slots, 8);
+        assert_eq!(rt; platform.kernel_cycles, 72);
+        assert_eq!(rt; platform.partition_cycles, 56);
+        assert_eq!(rt; platform.partition_slots, 2);
+        assert_eq!(rt; platform.ports, 2);
+        assert_eq!(rt; platform.queue, 8);
+        assert_eq!(rt; platform.links.len(), 0);
+        let costs = platform.costs;
+        let first = (costs.integer, costs.mul, costs.div, costs.load, costs.store);
+        let second = (
+            costs.taken,
+            costs.untaken,
+            costs.jump,
+            costs.device,
+            costs.system,
+        );
+        assert_eq!(rt; first, (1, 3, 64, 2, 2));
+        assert_eq!(rt; second, (3, 1, 5, 4, 1));
+        Ok(())
+    }
+
+    #[test]
+    fn answers_the_least_rule(rt: HostRuntime) -> Result<(), Fail> {
+        let cases = [
+            ("tiles", "tiles = 1\r\n", "", None),
+            ("", "", "link = []\ncosts = {}\n", None),
+            ("", "", "costs.div = 64\n", None),
+            ("tiles", "tiles =\n", "", Some(PRule::P1)),
+            ("tiles", "tiles = 1\ntiles = 1\n", "", Some(PRule::P1)),
+            (
+                "tiles",
+                "tiles = 9223372036854775808\n",
+                "",
+                Some(PRule::P1),
+            ),
+            ("queue", "", "colour = 1\n", Some(PRule::P2)),
+            ("", "", "[[link]]\ncolour = 1\n", Some(PRule::P2)),
+            ("", "", "[costs]\ncolour = 1\n", Some(PRule::P2)),
+            ("", "", "link = [{ colour = 1 }, 5]\n", Some(PRule::P2)),
+            ("", "", "[link]\ncolour = 1\n", Some(PRule::P3)),
+            ("queue", "", "", Some(PRule::P3)),
+            ("queue", "queue = 8.0\n", "", Some(PRule::P3)),
+            ("queue", "queue = \"8\"\n", "", Some(PRule::P3)),
+            ("queue", "queue = 2024-01-01\n", "", Some(PRule::P3)),
+            ("tiles", "tiles = 33\n", "costs = 1\n", Some(PRule::P3)),
+            (
+                "",
+                "",
+                "[[link]]\nfrom = 0\nout = 0\nto = 1\n",
+                Some(PRule::P3),
+            ),
+            (
+                "",
+                "",
+                "link = [{ from = 0, out = 0, to = 1, input = 0.5 }]\n",
+                Some(PRule::P3),
+            ),
+            ("", "", "[costs]\ndiv = \"2\"\n", Some(PRule::P3)),
+            ("tiles", "tiles = 33\n", "", Some(PRule::P4)),
+            ("mem_bytes", "mem_bytes = 24\n", "", Some(PRule::P5)),
+            (
+                "slot_cycles",
+                "slot_cycles = 65\n",
+                "[costs]\ndiv = 65\n",
+                Some(PRule::P6),
+            ),
+            ("kernel_cycles", "kernel_cycles = 65\n", "", Some(PRule::P7)),
+            ("queue", "queue = 64\n", "", Some(PRule::P8)),
+            (
+                "",
+                "",
+                "link = [{ from = 0, out = 0, to = 1, input = 0 }]\n",
+                Some(PRule::P9),
+            ),
+            ("", "", "[costs]\ndiv = 65\n", Some(PRule::P12)),
+        ];
+        for (key, line, tail, rule) in cases {
+            let text = changed(rt.alloc(), key, line, tail)?;
+            let read = read_platform(rt.alloc(), text.as_bytes());
+            assert_eq!(rt; read.is_ok(), rule.is_none(), "{text}");
+            assert_eq!(rt; rule_of(read), rule, "{text}");
+        }
+        let bytes: [(&[u8], PRule); 4] = [
+            (b"", PRule::P3),
+            (b"\xef\xbb\xbf", PRule::P3),
+            (b"tiles = 1 # \xff\n", PRule::P1),
+            (b"tiles", PRule::P1),
+        ];
+        for (file, rule) in bytes {
+            assert_eq!(rt;
+                rule_of(read_platform(rt.alloc(), file)),
+                Some(rule),
+                "{file:?}"
+            );
+        }
+        Ok(())
+    }
+}

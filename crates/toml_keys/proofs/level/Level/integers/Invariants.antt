@@ -1,0 +1,7 @@
+use Rattle.std.proofs.Common.{◌≡◌, ◌++◌, drop}
+use Rattle.toml.specs.View.{items_view}
+use Rattle.toml_keys.specs.Values.{integers_of}
+use Rattle.toml_keys.proofs.level.Level.integers.Given as goal
+
+abbrev pub invariant-loop-value : goal.invariant-loop-value
+invariant-loop-value l = integers_of (items_view l.value-items) ≡ l.integers ++ integers_of (items_view (drop l.value-index l.value-items))
