@@ -1,6 +1,6 @@
 //! A text in several writes.
 
-ghost use Rattle.std.specs.Prelude.{◌≡◌, ℕ, [], ◌++◌, List, Option, IsTrue, if◌then◌else◌};
+ghost use Rattle.std.specs.Prelude.{◌≡◌, false, ℕ, [], ◌++◌, List, Option, IsTrue, if◌then◌else◌};
 ghost use Rattle.soc_io.specs.Writing.{Printed};
 
 use crate::sink::{Sink, SinkFault};
@@ -17,6 +17,8 @@ impl<'s, S: Sink> Printer<'s, S> {
     #[tactic(auto, using(crate::proofs::Writing::printed_nothing))]
     pub fn new(sink: &'s mut S) -> Printer<'s, S>
         ensures printed { Printed [] (S.written sink.old) (S.faults sink.old) (S.written result.sink.now) (S.faults result.sink.now) result.failed }
+        ensures unfailed { result.failed ≡ false }
+        ensures untouched { result.sink.now ≡ sink.old }
         ensures same { result.sink.ghost_name ≡ sink.entry.ghost_name }
     {
         Printer {
@@ -30,6 +32,7 @@ impl<'s, S: Sink> Printer<'s, S> {
     pub fn put(&mut self, bytes: &[u8])
         ensures printed { (text : List ℕ) (old : Option (List ℕ)) (before : ℕ) → Printed text old before (S.written self.old.sink.now) (S.faults self.old.sink.now) self.old.failed → Printed (text ++ bytes.now) old before (S.written self.new.sink.now) (S.faults self.new.sink.now) self.new.failed }
         ensures stopped { IsTrue self.old.failed → self.new.sink.now ≡ self.old.sink.now }
+        ensures stays_failed { IsTrue self.old.failed → IsTrue self.new.failed }
         ensures same { self.new.sink.ghost_name ≡ self.old.sink.ghost_name }
     {
         if self.failed {

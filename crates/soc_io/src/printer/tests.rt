@@ -1,7 +1,8 @@
 //! Tests of the printer.
 
-ghost use Rattle.std.specs.Prelude.{◌≤◌, ◌++◌, codes};
-ghost use Rattle.soc_io.specs.Writing.{Writes};
+ghost use Rattle.std.specs.Prelude.{◌≡◌, ◌≤◌, ℕ, List, ◌∷◌, ◌++◌, Option, codes};
+ghost use Rattle.soc_io.specs.Writing.{Printed, Writes};
+ghost use Rattle.std.specs.List.{flat_map};
 
 use crate::mem_sink::MemSink;
 use crate::printer::Printer;
@@ -20,6 +21,28 @@ fn greet<S: Sink>(sink: &mut S, name: &[u8]) -> Result<(), SinkFault>
     printer.finish()
 }
 
+// Marks, each in two pieces, as callers print rows in a loop.
+fn put_marks<S: Sink>(printer: &mut Printer<'_, S>, marks: &[u8])
+    ensures printed { (text : List ℕ) (old : Option (List ℕ)) (before : ℕ) → Printed text old before (S.written printer.old.sink.now) (S.faults printer.old.sink.now) printer.old.failed → Printed (text ++ flat_map (λ mark. mark ∷ codes ";") marks.now) old before (S.written printer.new.sink.now) (S.faults printer.new.sink.now) printer.new.failed }
+    ensures same { printer.new.sink.ghost_name ≡ printer.old.sink.ghost_name }
+{
+    for mark in marks {
+        printer.put(&[*mark]);
+        printer.put(b";");
+    }
+}
+
+// A head, and marks.
+fn list<S: Sink>(sink: &mut S, marks: &[u8]) -> Result<(), SinkFault>
+    ensures answer { Writes (codes "marks " ++ flat_map (λ mark. mark ∷ codes ";") marks.now) (S.written sink.old) (S.faults sink.old) (S.written sink.new) (S.faults sink.new) result }
+    ensures counted { S.faults sink.old ≤ S.faults sink.new }
+{
+    let mut printer = Printer::new(sink);
+    printer.put(b"marks ");
+    put_marks(&mut printer, marks);
+    printer.finish()
+}
+
 #[test]
 fn prints_whole_or_a_front(rt: HostRuntime) -> Result<(), Fail> {
     let alloc = rt.alloc();
@@ -27,6 +50,8 @@ fn prints_whole_or_a_front(rt: HostRuntime) -> Result<(), Fail> {
     assert_eq!(rt; greet(&mut sink, b"tile"), Ok(()));
     assert_eq!(rt; greet(&mut sink, b"core"), Err(SinkFault::Failed));
     assert_eq!(rt; sink.written(), b"hello, tile!hello, ".as_slice());
+    assert_eq!(rt; list(&mut sink, b"ab"), Ok(()));
+    assert_eq!(rt; sink.written(), b"hello, tile!hello, marks a;b;".as_slice());
     let mut printer = Printer::new(&mut sink);
     assert!(rt; !printer.has_failed());
     printer.put(b"on");
