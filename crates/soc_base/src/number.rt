@@ -1,6 +1,6 @@
 //! Numbers read from text.
 
-ghost use Rattle.std.specs.Prelude.{◌≡◌, ℕ, ◌+◌, ◌*◌, ◌^◌, ◌<◌, ◌≤◌, ◌-◌, position};
+ghost use Rattle.std.specs.Prelude.{◌≡◌, position};
 ghost use Rattle.soc_base.specs.Text.{number_read, number_within, value_of, is_no_digit};
 
 use thiserror::Error;
