@@ -1,0 +1,4 @@
+pub mod Causes
+pub mod SamePlatform
+pub mod Exclusive
+pub mod Endings

@@ -1,0 +1,134 @@
+-- The command `alone`: in which order it is decided, and what it writes.
+use Rattle.std.specs.Prelude.{◌≡◌, ℕ, Bool, ◌++◌, ◌⊎◌, max, List, Option, Some, None, Result, Ok, Err}
+use Rattle.soc_base.specs.Time.{slot_up_of}
+use Rattle.soc_io.specs.Counts.{Rose}
+use Rattle.soc_io.specs.Reading.{Held, held_at}
+use Rattle.soc_io.specs.Writing.{Appends, AppendsFront, Printed}
+use Rattle.platform_model.specs.declared.platform.Platform.{Platform}
+use Rattle.platform_model.specs.declared.rules.PRule.{PRule}
+use Rattle.bundle_model.specs.declared.bundle.Bundle.{Bundle}
+use Rattle.bundle_model.specs.declared.rules.BRule.{BRule}
+use Rattle.alone_model.specs.declared.trace.AppTrace.{AppTrace}
+use Rattle.alone_model.specs.App.{alone_at}
+use Rattle.alone_model.specs.Trace.{IsTraceOf}
+use Rattle.report_text.specs.Alone.{alone_text}
+use Rattle.soc_top.specs.declared.request.AloneWords.{AloneWords}
+use Rattle.soc_top.specs.declared.refusal.Refusal.{Refusal}
+use Rattle.soc_top.specs.declared.refusal.Refusal.TheVariants.{AbsentPlatform, UnreadPlatform, BrokenPlatform, AbsentBundle, UnreadBundle, BrokenBundle, NoMemory}
+use Rattle.soc_top.specs.declared.inputs.Inputs.{Inputs}
+use Rattle.soc_top.specs.declared.alone.Ending.{Ending}
+use Rattle.soc_top.specs.declared.alone.Ending.TheVariants.{Done, Unwritten, Refused}
+use Rattle.soc_top.specs.Files.{HoldsPlatform, BreaksPlatform, HoldsBundle, BreaksBundle}
+use Rattle.soc_top.specs.Exchange.{Exchange, Says}
+use Rattle.soc_top.specs.Lines.{status_of, refusal_line}
+
+-- The events by which a request is decided, in their order: the platform file is read, and judged; the
+-- bundle file is read, and judged; the application runs; its text is written. The first that refuses
+-- decides. Where files are told, the refusal has this cause, and no event before it refused.
+abbrev pub ToldCause : Held → ℕ → ℕ → AloneWords → Refusal → Type 0
+ToldCause held before now request AbsentPlatform = held_at held request.platform ≡ None
+ToldCause held before now request UnreadPlatform = Rose before now
+ToldCause held before now request (BrokenPlatform rule) = BreaksPlatform held request.platform rule
+ToldCause held before now request AbsentBundle =
+    (platform : Platform) × HoldsPlatform held request.platform platform × (held_at held request.bundle ≡ None)
+ToldCause held before now request UnreadBundle =
+    (platform : Platform) × HoldsPlatform held request.platform platform × Rose before now
+ToldCause held before now request (BrokenBundle rule) =
+    (platform : Platform) × HoldsPlatform held request.platform platform × BreaksBundle platform held request.bundle rule
+ToldCause held before now request NoMemory = Unit {0}
+
+-- where nothing is told of the files, a file is absent or unread only where their faults rose
+abbrev pub UntoldCause : ℕ → ℕ → Refusal → Type 0
+UntoldCause before now AbsentPlatform = Rose before now
+UntoldCause before now UnreadPlatform = Rose before now
+UntoldCause before now (BrokenPlatform rule) = Unit {0}
+UntoldCause before now AbsentBundle = Rose before now
+UntoldCause before now UnreadBundle = Rose before now
+UntoldCause before now (BrokenBundle rule) = Unit {0}
+UntoldCause before now NoMemory = Unit {0}
+
+abbrev pub Cause : Option Held → ℕ → ℕ → AloneWords → Refusal → Type 0
+Cause (Some held) before now request refusal = ToldCause held before now request refusal
+Cause None before now request refusal = UntoldCause before now refusal
+
+-- the request is refused with this cause and this line
+abbrev pub Refuses : Exchange → AloneWords → Refusal → Type 0
+Refuses e request refusal = Cause e.held e.read_faults e.read_faults_now request refusal × Says e (refusal_line request refusal)
+
+-- what the files alone refuse: these refusals come wherever no read fails and memory suffices
+abbrev pub IsDecided : Held → AloneWords → Refusal → Type 0
+IsDecided held request UnreadPlatform = ⊥
+IsDecided held request UnreadBundle = ⊥
+IsDecided held request NoMemory = ⊥
+IsDecided held request refusal = ToldCause held 0 0 request refusal
+
+-- the slots from and to which the application is followed; a start after the budget ends at once
+abbrev pub first_slot : Platform → AloneWords → ℕ
+first_slot platform request = slot_up_of request.start platform.slot_cycles
+
+abbrev pub last_slot : Platform → AloneWords → ℕ
+last_slot platform request = max (first_slot platform request) (slot_up_of request.budget platform.slot_cycles)
+
+-- the text of the trace of the bundle alone on the platform, from the files that the request names
+pub record IsAloneText (platform : Platform) (bundle : Bundle) (request : AloneWords) (text : List ℕ) : Type 0 where
+  pub trace : AppTrace
+  pub is_trace : IsTraceOf (alone_at platform bundle (first_slot platform request) (last_slot platform request)) trace
+  pub is_text : text ≡ alone_text platform.slot_cycles request.bundle trace (first_slot platform request) (last_slot platform request)
+
+abbrev pub AloneText : Held → AloneWords → List ℕ → Type 0
+AloneText held request text =
+    (platform : Platform) × (bundle : Bundle) × HoldsPlatform held request.platform platform
+    × HoldsBundle platform held request.bundle bundle × IsAloneText platform bundle request text
+
+-- how the run of a request ends, once its files gave a platform and a bundle
+abbrev pub Runs : Option (List ℕ) → ℕ → Option (List ℕ) → ℕ → Inputs → AloneWords → Ending → Type 0
+Runs old before new now inputs request Done = (text : List ℕ) × IsAloneText inputs.platform inputs.bundle request text × Appends old text new
+Runs old before new now inputs request Unwritten =
+    (text : List ℕ) × IsAloneText inputs.platform inputs.bundle request text × AppendsFront old text new × Rose before now
+Runs old before new now inputs request (Refused refusal) = (refusal ≡ NoMemory) × (new ≡ old) × (now ≡ before)
+
+-- the same, where a refusal's line is written too
+abbrev pub RunEnds : Option (List ℕ) → ℕ → Option (List ℕ) → ℕ → Inputs → AloneWords → Ending → Type 0
+RunEnds old before new now inputs request Done = Runs old before new now inputs request Done
+RunEnds old before new now inputs request Unwritten = Runs old before new now inputs request Unwritten
+RunEnds old before new now inputs request (Refused refusal) =
+    (refusal ≡ NoMemory) × ((failed : Bool) × Printed (refusal_line request refusal) old before new now failed)
+
+-- where files are told, the text is that of the files' bytes
+abbrev pub TextOf : Option Held → AloneWords → List ℕ → Type 0
+TextOf (Some held) request text = AloneText held request text
+TextOf None request text = Unit {0}
+
+-- how a request may end: its text is written, or a front of it where a write failed, or it is refused
+abbrev pub Ends : Exchange → AloneWords → Ending → Type 0
+Ends e request Done = (text : List ℕ) × TextOf e.held request text × Appends e.written text e.written_now
+Ends e request Unwritten =
+    (text : List ℕ) × TextOf e.held request text × AppendsFront e.written text e.written_now × Rose e.write_faults e.write_faults_now
+Ends e request (Refused refusal) = Refuses e request refusal
+
+abbrev pub ending_status : Ending → ℕ
+ending_status Done = 0
+ending_status Unwritten = 6
+ending_status (Refused refusal) = status_of refusal
+
+-- how the request may end with a status
+pub record AloneAnswers (e : Exchange) (request : AloneWords) (status : ℕ) : Type 0 where
+  -- these statuses come and no other
+  pub statuses : (ending : Ending) × (status ≡ ending_status ending)
+  -- 0: the text of the trace was written
+  pub done : status ≡ 0 → (held : Held) (old : List ℕ) → e.held ≡ Some held → e.written ≡ Some old → (text : List ℕ) × AloneText held request text × (e.written_now ≡ Some (old ++ text))
+  -- 2: the platform file breaks this rule; 3: the bundle file does
+  pub platform : status ≡ 2 → (rule : PRule) × Refuses e request (BrokenPlatform rule)
+  pub bundle : status ≡ 3 → (rule : BRule) × Refuses e request (BrokenBundle rule)
+  -- 4: a file isn't there; 5: a file could not be read
+  pub absent : status ≡ 4 → Refuses e request AbsentPlatform ⊎ Refuses e request AbsentBundle
+  pub unread : status ≡ 5 → Refuses e request UnreadPlatform ⊎ Refuses e request UnreadBundle
+  -- 6: a write of the text failed, and a front of it was written
+  pub unwritten : status ≡ 6 → Rose e.write_faults e.write_faults_now
+  pub front : status ≡ 6 → (held : Held) → e.held ≡ Some held → (text : List ℕ) × AloneText held request text × AppendsFront e.written text e.written_now
+  -- 7: want of memory
+  pub memory : status ≡ 7 → Refuses e request NoMemory
+  -- what the files refuse is refused, where no read fails
+  pub decided : (held : Held) (refusal : Refusal) → e.held ≡ Some held → (Rose e.read_faults e.read_faults_now → ⊥) → IsDecided held request refusal → (status ≡ status_of refusal) ⊎ (status ≡ 7)
+  -- and what they allow is done, where no write fails either
+  pub complete : (held : Held) (platform : Platform) (bundle : Bundle) → e.held ≡ Some held → (Rose e.read_faults e.read_faults_now → ⊥) → (Rose e.write_faults e.write_faults_now → ⊥) → HoldsPlatform held request.platform platform → HoldsBundle platform held request.bundle bundle → (status ≡ 0) ⊎ (status ≡ 7)

@@ -1,0 +1,38 @@
+-- What the words of a command line ask for.
+use Rattle.std.specs.Prelude.{ℕ, ◌≤◌, ◌&&◌, ◌==◌, List, [], codes, length, unwrap_or, slice_get, if◌then◌else◌, Option, Some, None, Result, Ok, Err}
+use Rattle.std.specs.Str.{bytes_eq}
+use Rattle.soc_base.specs.declared.number.NumFault.{NumFault}
+use Rattle.soc_base.specs.Text.{number_read}
+use Rattle.soc_top.specs.declared.request.AloneWords.{AloneWords}
+use Rattle.soc_top.specs.declared.request.Request.{Request}
+use Rattle.soc_top.specs.declared.request.Request.TheVariants.{Alone}
+
+-- the greatest cycle that words may state
+abbrev pub cycle_limit : ℕ
+cycle_limit = 1000000000000
+
+-- the n-th word, counted from 0
+abbrev pub word_at : List (List ℕ) → ℕ → List ℕ
+word_at words n = unwrap_or (slice_get words n) []
+
+abbrev pub cycles_of : List ℕ → Result ℕ NumFault
+cycles_of word = number_read word cycle_limit
+
+abbrev pub alone_of : List ℕ → List ℕ → Result ℕ NumFault → Result ℕ NumFault → Option Request
+alone_of platform bundle (Ok start) (Ok budget) = Some (Alone (record { platform = platform; bundle = bundle; start = start; budget = budget }))
+alone_of platform bundle (Ok start) (Err fault) = None
+alone_of platform bundle (Err fault) budget = None
+
+-- what the words ask for, if they are those of a command: `alone PLATFORM BUNDLE START BUDGET`
+unfoldable pub request_of : List (List ℕ) → Option Request
+request_of words =
+    if length words == 5 && bytes_eq (word_at words 0) (codes "alone")
+    then alone_of (word_at words 1) (word_at words 2) (cycles_of (word_at words 3)) (cycles_of (word_at words 4))
+    else None
+
+-- a request that words can ask for
+abbrev pub IsInForm : AloneWords → Type 0
+IsInForm request = (request.start ≤ cycle_limit) × (request.budget ≤ cycle_limit)
+
+abbrev pub AreInForm : Request → Type 0
+AreInForm (Alone request) = IsInForm request

@@ -1,0 +1,132 @@
+//! The command `alone`.
+
+ghost use Rattle.std.specs.Prelude.{◌≡◌, ◌*◌, ◌≤◌};
+ghost use Rattle.bundle_model.specs.WellFormed.{IsWellFormed};
+ghost use Rattle.soc_top.specs.Request.{IsInForm};
+ghost use Rattle.soc_top.specs.Exchange.{exchanged};
+ghost use Rattle.soc_top.specs.Alone.{first_slot, last_slot, Ends, Runs, RunEnds, ending_status, AloneAnswers};
+
+use crate::inputs::{Inputs, load};
+use crate::refusal::{Refusal, refuse, status};
+use crate::request::AloneWords;
+use alone_model::alone;
+use platform_model::Platform;
+use report_text::write_trace;
+use soc_base::slot_up;
+use soc_io::{Files, Sink};
+use std::alloc::Global;
+
+/// How a request ends.
+#[derive(Clone, Copy, Debug, PartialEq, Eq)]
+pub enum Ending {
+    /// Its text was written.
+    Done,
+    /// A write of its text failed.
+    Unwritten,
+    /// It was refused.
+    Refused(Refusal),
+}
+
+// The slots from and to which an application is followed.
+fn span(platform: &Platform, request: &AloneWords) -> (u64, u64)
+    requires { IsInForm request.now }
+    ensures first { result.0 ≡ first_slot platform.now request.now }
+    ensures last { result.1 ≡ last_slot platform.now request.now }
+    ensures ordered { result.0 ≤ result.1 }
+    ensures bounded { result.1 * platform.now.slot_cycles ≤ 1000000000063 }
+{
+    let start = slot_up(request.start, platform.slot_cycles);
+    let end = start.max(slot_up(request.budget, platform.slot_cycles));
+    (start, end)
+}
+
+// Follows the application, and writes the text of its trace.
+fn run<S: Sink>(alloc: Global, request: &AloneWords, inputs: &Inputs, sink: &mut S) -> Ending
+    requires in_form { IsInForm request.now }
+    requires well_formed { IsWellFormed inputs.now.platform inputs.now.bundle }
+    ensures counted { S.faults sink.old ≤ S.faults sink.new }
+    ensures runs { Runs (S.written sink.old) (S.faults sink.old) (S.written sink.new) (S.faults sink.new) inputs.now request.now result }
+{
+    let (start, end) = span(&inputs.platform, request);
+    let Ok(trace) = alone(alloc, &inputs.platform, &inputs.bundle, start, end) else {
+        return Ending::Refused(Refusal::NoMemory);
+    };
+    match write_trace(
+        &inputs.platform,
+        request.bundle.as_str(),
+        &trace,
+        start,
+        end,
+        sink,
+    ) {
+        Ok(()) => Ending::Done,
+        Err(_) => Ending::Unwritten,
+    }
+}
+
+// Follows the application, and writes the text of its trace or the line of a refusal.
+fn run_or_refuse<S: Sink>(
+    alloc: Global,
+    request: &AloneWords,
+    inputs: &Inputs,
+    sink: &mut S,
+) -> Ending
+    requires in_form { IsInForm request.now }
+    requires well_formed { IsWellFormed inputs.now.platform inputs.now.bundle }
+    ensures counted { S.faults sink.old ≤ S.faults sink.new }
+    ensures ends { RunEnds (S.written sink.old) (S.faults sink.old) (S.written sink.new) (S.faults sink.new) inputs.now request.now result }
+{
+    let ending = run(alloc, request, inputs, sink);
+    if let Ending::Refused(refusal) = ending {
+        refuse(request, refusal, sink);
+    }
+    ending
+}
+
+// How a request ends: its files are read and judged, its application runs, its text is written.
+#[tactic(auto, using(crate::proofs::Causes::ended))]
+fn end<F: Files, S: Sink>(
+    alloc: Global,
+    request: &AloneWords,
+    files: &mut F,
+    sink: &mut S,
+) -> Ending
+    requires { IsInForm request.now }
+    ensures { Ends (exchanged (F.holds files.old) (F.faults files.old) (F.faults files.new) (S.written sink.old) (S.written sink.new) (S.faults sink.old) (S.faults sink.new)) request.now result }
+{
+    match load(alloc, request, files) {
+        Ok(inputs) => run_or_refuse(alloc, request, &inputs, sink),
+        Err(refusal) => {
+            refuse(request, refusal, sink);
+            Ending::Refused(refusal)
+        }
+    }
+}
+
+fn code(ending: Ending) -> u8
+    ensures { result ≡ ending_status ending }
+{
+    match ending {
+        Ending::Done => 0,
+        Ending::Unwritten => 6,
+        Ending::Refused(refusal) => status(refusal),
+    }
+}
+
+/// Does an `alone`: reads and judges the platform file and then the bundle file, follows the application
+/// alone from its start to the budget, and writes the text of its trace. Answers the status: 0 where the
+/// text was written, 2 and 3 where the platform or the bundle file breaks a rule, 4 where a file is
+/// absent, 5 where one could not be read, 6 where a write of the text failed, 7 at want of memory. At
+/// 2 to 5 and 7 the line of the fault was written.
+#[tactic(auto, using(crate::proofs::Endings::answers_of))]
+pub fn alone_call<F: Files, S: Sink>(
+    alloc: Global,
+    request: &AloneWords,
+    files: &mut F,
+    sink: &mut S,
+) -> u8
+    requires { IsInForm request.now }
+    ensures { AloneAnswers (exchanged (F.holds files.old) (F.faults files.old) (F.faults files.new) (S.written sink.old) (S.written sink.new) (S.faults sink.old) (S.faults sink.new)) request.now result }
+{
+    code(end(alloc, request, files, sink))
+}

@@ -1,0 +1,89 @@
+//! What a command line asks for.
+
+ghost use Rattle.std.specs.Prelude.{◌≡◌, ◌≢◌, ◌↔◌, IfOk};
+ghost use Rattle.soc_top.specs.Request.{request_of, AreInForm};
+
+use soc_base::{Text, Words, read_number};
+use std::alloc::Global;
+use thiserror::Error;
+
+/// The words of the command `alone`: a platform file, a bundle file, and two cycles from 0 to
+/// 1,000,000,000,000.
+#[derive(Debug, Drop)]
+pub struct AloneWords {
+    /// The name of the platform file.
+    pub platform: Text,
+    /// The name of the bundle file.
+    pub bundle: Text,
+    /// The cycle from which on the application is granted.
+    pub start: u64,
+    /// The cycle at which the run ends.
+    pub budget: u64,
+}
+
+/// What a command line asks for.
+#[derive(Debug, Drop)]
+pub enum Request {
+    /// The trace of a bundle alone on the empty platform.
+    Alone(AloneWords),
+}
+
+/// Why words ask for nothing.
+#[derive(Clone, Copy, Debug, PartialEq, Eq, Error)]
+pub enum WordsFault {
+    /// The words aren't those of a command.
+    #[error("the words aren't those of a command")]
+    Usage,
+    /// Memory was wanted and not had.
+    #[error("no memory")]
+    NoMemory,
+}
+
+/// The greatest cycle that words may state.
+const LAST_CYCLE: u64 = 1_000_000_000_000;
+
+/// Reads what words ask for: `alone PLATFORM BUNDLE START BUDGET`, the cycles in decimal digits.
+/// Refuses with `Usage` exactly where the words aren't of this form or a cycle is above
+/// 1,000,000,000,000.
+#[tactic(auto, unfolding(crate::specs::Request::request_of))]
+pub fn read_words(alloc: Global, words: &Words) -> Result<Request, WordsFault>
+    ensures usage { (result ≡ Err WordsFault.Usage) ↔ (request_of words.now ≡ None) }
+    ensures request { IfOk result (λ request. request_of words.now ≡ Some request) }
+    ensures in_form { IfOk result AreInForm }
+{
+    if words.len() != 5 || words.word(0) != "alone" {
+        return Err(WordsFault::Usage);
+    }
+    let (Ok(start), Ok(budget)) = (
+        read_number(words.word(3).as_bytes(), LAST_CYCLE),
+        read_number(words.word(4).as_bytes(), LAST_CYCLE),
+    ) else {
+        return Err(WordsFault::Usage);
+    };
+    alone_words(alloc, words.word(1), words.word(2), start, budget)
+}
+
+// The words of an `alone`, as a request of its own.
+fn alone_words(
+    alloc: Global,
+    platform: &str,
+    bundle: &str,
+    start: u64,
+    budget: u64,
+) -> Result<Request, WordsFault>
+    ensures refused { result ≢ Err WordsFault.Usage }
+    ensures request { IfOk result (λ request. request ≡ Request.Alone (record { platform = platform.now; bundle = bundle.now; start = start; budget = budget })) }
+{
+    let (Ok(platform), Ok(bundle)) = (
+        Text::from_str(alloc, platform),
+        Text::from_str(alloc, bundle),
+    ) else {
+        return Err(WordsFault::NoMemory);
+    };
+    Ok(Request::Alone(AloneWords {
+        platform,
+        bundle,
+        start,
+        budget,
+    }))
+}

@@ -1,0 +1,46 @@
+//! The top call.
+
+ghost use Rattle.std.specs.Prelude.{◌≡◌, ◌↔◌, Bool, None, Some};
+ghost use Rattle.soc_io.specs.Writing.{Printed};
+ghost use Rattle.soc_top.specs.Request.{request_of};
+ghost use Rattle.soc_top.specs.Exchange.{exchanged, Says};
+ghost use Rattle.soc_top.specs.Lines.{usage_line};
+ghost use Rattle.soc_top.specs.Alone.{AloneAnswers};
+ghost use Rattle.soc_top.specs.declared.request.AloneWords.{AloneWords};
+ghost use Rattle.soc_top.specs.declared.request.Request.TheVariants.{Alone};
+
+use crate::alone::alone_call;
+use crate::request::{Request, WordsFault, read_words};
+use soc_base::Words;
+use soc_io::{Files, Printer, Sink};
+use std::alloc::Global;
+
+// Writes one line.
+fn say<S: Sink>(sink: &mut S, line: &str)
+    ensures { (failed : Bool) × Printed line.now (S.written sink.old) (S.faults sink.old) (S.written sink.new) (S.faults sink.new) failed }
+{
+    let mut printer = Printer::new(sink);
+    printer.put(line.as_bytes());
+    let _ = printer.finish();
+}
+
+/// Does what the words of a command line ask for, over files and a sink, and answers the status that
+/// the program ends with: 0 where it is done, 1 where the words aren't those of a command, and else as
+/// the command's own call says (`alone_call`). At 1 the line `compsoc: usage` was written.
+pub fn compsoc<F: Files, S: Sink>(alloc: Global, words: &Words, files: &mut F, sink: &mut S) -> u8
+    ensures usage { (result ≡ 1) ↔ (request_of words.now ≡ None) }
+    ensures usage_line { result ≡ 1 → Says (exchanged (F.holds files.old) (F.faults files.old) (F.faults files.new) (S.written sink.old) (S.written sink.new) (S.faults sink.old) (S.faults sink.new)) usage_line }
+    ensures alone { (request : AloneWords) → request_of words.now ≡ Some (Alone request) → AloneAnswers (exchanged (F.holds files.old) (F.faults files.old) (F.faults files.new) (S.written sink.old) (S.written sink.new) (S.faults sink.old) (S.faults sink.new)) request result }
+{
+    match read_words(alloc, words) {
+        Ok(Request::Alone(request)) => alone_call(alloc, &request, files, sink),
+        Err(WordsFault::Usage) => {
+            say(sink, "compsoc: usage\n");
+            1
+        }
+        Err(WordsFault::NoMemory) => {
+            say(sink, "compsoc: memory\n");
+            7
+        }
+    }
+}
