@@ -21,13 +21,13 @@ bundle_at world place = option_and_then (λ named. kept_bundle named.judged) (sl
 abbrev pub grant_resources : World → Grant → List Resource
 grant_resources world grant = option_map_or (resources_of world.platform) (bundle_at world grant.bundle) []
 
--- whether a grant that ends there still lasts at the slot
+-- whether a grant with this end isn't over before the slot
 abbrev pub lasts_to : ℕ → Option ℕ → Bool
 lasts_to slot None = true
 lasts_to slot (Some end) = nat_le slot end
 
--- whether a grant conflicts with a resource that is asked for from slot `start` on: it lasts until
--- then, and some resource of its bundle meets it
+-- whether a grant conflicts with a resource that is asked for from slot `start` on: the grant is open
+-- or ends at `start` or later, and some resource of its bundle meets it
 abbrev pub conflicts : World → ℕ → Resource → Grant → Bool
 conflicts world start resource grant = lasts_to start grant.end && list_any (λ held. meets_of held resource) (grant_resources world grant)
 

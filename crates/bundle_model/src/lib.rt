@@ -21,6 +21,9 @@ mod raw;
 mod resource;
 /// The rules of bundle files.
 mod rules;
+/// Tests over whole bundles.
+#[cfg(test)]
+mod tests;
 /// What a run knows beforehand, and what is granted in it.
 mod world;
 

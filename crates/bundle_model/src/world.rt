@@ -42,9 +42,9 @@ pub struct Grant {
     pub label: Label,
     /// The bundle's place in the catalog.
     pub bundle: u16,
-    /// The first slot of the grant.
+    /// The slot at which the grant begins.
     pub start: u64,
-    /// The last slot of the grant; none while it is open.
+    /// The slot at which the grant ends; none while it is open.
     pub end: Option<u64>,
 }
 
