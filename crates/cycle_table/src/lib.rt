@@ -6,5 +6,8 @@
 
 /// The cost of a word.
 mod table;
+/// Words from outside.
+#[cfg(test)]
+mod tests;
 
 pub use table::cost;

@@ -114,3 +114,6 @@ impl TileMemory {
         LittleEndian::read_u32(&self.bytes[4 * index as usize..])
     }
 }
+
+#[cfg(test)]
+mod tests;

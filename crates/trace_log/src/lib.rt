@@ -10,6 +10,9 @@ mod log;
 mod order;
 /// Rows, their kinds, and the ends of parts.
 mod row;
+/// Logs and rows from outside.
+#[cfg(test)]
+mod tests;
 
 pub use log::PartLog;
 pub use order::merge;
