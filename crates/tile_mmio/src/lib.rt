@@ -8,5 +8,9 @@ mod cycle;
 /// The bus of one part.
 mod part_bus;
 
+/// Accesses and cycles worked out by hand.
+#[cfg(test)]
+mod tests;
+
 pub use cycle::cycle_part;
 pub use part_bus::PartBus;
