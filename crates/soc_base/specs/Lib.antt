@@ -2,3 +2,4 @@ pub mod Time
 pub mod Steps
 pub mod Text
 pub mod Port
+pub mod Widths

@@ -134,3 +134,30 @@ impl Text {
         self.text.as_str()
     }
 }
+
+#[cfg(test)]
+mod tests {
+    use super::*;
+    use std::test::Fail;
+
+    #[test]
+    fn keeps_items_and_texts(rt: HostRuntime) -> Result<(), Fail> {
+        let alloc = rt.alloc();
+        let mut items: Items<u32> = Items::new(alloc);
+        assert!(rt; items.is_empty());
+        items.push(5)?;
+        items.push(9)?;
+        assert!(rt; !items.is_empty());
+        assert_eq!(rt; items.len(), 2);
+        assert_eq!(rt; items.as_slice(), [5, 9].as_slice());
+        assert_eq!(rt; items.get(1).copied(), Some(9));
+        assert_eq!(rt; items.get(2).copied(), None);
+        let back = Items::from_vec(items.into_vec());
+        assert_eq!(rt; back.len(), 2);
+        let text = Text::from_str(alloc, "tile 0")?;
+        assert_eq!(rt; text.as_str(), "tile 0");
+        let again = Text::from_string(text.into_string());
+        assert_eq!(rt; again.as_str(), "tile 0");
+        Ok(())
+    }
+}

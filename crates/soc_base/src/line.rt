@@ -61,3 +61,39 @@ pub fn push_hex(line: &mut Line, value: u32)
     line.push_str(digit_text((value >> 4) % 16));
     line.push_str(digit_text(value % 16));
 }
+
+#[cfg(test)]
+mod tests {
+    use super::*;
+
+    #[test]
+    fn writes_numbers(rt: HostRuntime) {
+        let decimals = [
+            (0, "0"),
+            (10, "10"),
+            (4_294_967_296, "4294967296"),
+            (u64::MAX, "18446744073709551615"),
+        ];
+        for (value, text) in decimals {
+            let mut line = Line::new();
+            push_number(&mut line, value);
+            assert_eq!(rt; line.as_str(), text);
+        }
+        let words = [
+            (0, "00000000"),
+            (u32::MAX, "ffffffff"),
+            (0x80c3_2686, "80c32686"),
+            (0x0123_4567, "01234567"),
+            (0x89ab_cdef, "89abcdef"),
+        ];
+        for (value, text) in words {
+            let mut line = Line::new();
+            push_hex(&mut line, value);
+            assert_eq!(rt; line.as_str(), text);
+        }
+        let mut line = Line::new();
+        push_number(&mut line, 7);
+        push_hex(&mut line, 0xa);
+        assert_eq!(rt; line.as_str(), "70000000a");
+    }
+}

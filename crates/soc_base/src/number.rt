@@ -57,3 +57,33 @@ pub fn read_number(bytes: &[u8], limit: u64) -> Result<u64, NumFault>
         None => Err(NumFault::Large),
     }
 }
+
+#[cfg(test)]
+mod tests {
+    use super::*;
+
+    #[test]
+    fn reads_numbers_within_a_limit(rt: HostRuntime) {
+        let cases: [(&[u8], u64, Result<u64, NumFault>); 16] = [
+            (b"", 9, Err(NumFault::Empty)),
+            (b"0", 0, Ok(0)),
+            (b"1", 0, Err(NumFault::Large)),
+            (b"296", 296, Ok(296)),
+            (b"297", 296, Err(NumFault::Large)),
+            (b"00000000000000000000000000042", 42, Ok(42)),
+            (b"000", 0, Ok(0)),
+            (b"-5", 9, Err(NumFault::Digit(0))),
+            (b"12a", 999, Err(NumFault::Digit(2))),
+            (b"/", 999, Err(NumFault::Digit(0))),
+            (b":", 999, Err(NumFault::Digit(0))),
+            (b"99x", 5, Err(NumFault::Digit(2))),
+            (b"18446744073709551615", u64::MAX, Ok(u64::MAX)),
+            (b"18446744073709551616", u64::MAX, Err(NumFault::Large)),
+            (b"100000000000000000000", u64::MAX, Err(NumFault::Large)),
+            (b"1000000000000", 1_000_000_000_000, Ok(1_000_000_000_000)),
+        ];
+        for (bytes, limit, want) in cases {
+            assert_eq!(rt; read_number(bytes, limit), want, "of {bytes:?}");
+        }
+    }
+}

@@ -58,3 +58,23 @@ impl Words {
         self.texts[n].as_str()
     }
 }
+
+#[cfg(test)]
+mod tests {
+    use super::*;
+    use std::test::Fail;
+
+    #[test]
+    fn keeps_words_in_order(rt: HostRuntime) -> Result<(), Fail> {
+        let mut words = Words::new(rt.alloc());
+        assert_eq!(rt; words.len(), 0);
+        words.add("alone")?;
+        words.add("")?;
+        words.add("a.hex")?;
+        assert_eq!(rt; words.len(), 3);
+        for (n, word) in [(0, "alone"), (1, ""), (2, "a.hex")] {
+            assert_eq!(rt; words.word(n), word);
+        }
+        Ok(())
+    }
+}

@@ -1,0 +1,4 @@
+pub mod Ended
+pub mod Merged
+pub mod Opening
+pub mod Slots

@@ -1,0 +1,107 @@
+//! An application, stepped cycle by cycle.
+
+ghost use Rattle.std.specs.Prelude.{◌≡◌, ◌-◌, ◌≤◌, map, IfOk};
+ghost use Rattle.bundle_model.specs.WellFormed.{IsWellFormed};
+ghost use Rattle.alone_model.specs.App.{opening_part, part_step};
+ghost use Rattle.std.specs.List.{list_all};
+ghost use Rattle.soc_base.specs.Steps.{after_steps};
+ghost use Rattle.trace_log.specs.Log.{has_ended};
+
+use crate::part::RunningPart;
+use bundle_model::Bundle;
+use platform_model::Platform;
+use soc_base::NoMemory;
+use std::alloc::Global;
+use std::marker::Model;
+
+/// An application between two cycles: the parts of its bundle, in the order of the file.
+#[derive(Drop)]
+pub struct Application<'b> {
+    parts: Vec<RunningPart<'b>>,
+}
+
+impl<'b> Model for Application<'b> {
+    ghost use Rattle.alone_model.specs.App.{AppState};
+
+    ghost Value = { AppState };
+
+    ghost view = { λ a. record { parts = a.parts.items } };
+}
+
+// Does what each part does in a cycle.
+fn step_all(parts: &mut [RunningPart<'_>], platform: &Platform, start: u64, cycle: u64)
+    ensures { parts.new ≡ map (part_step platform.now start cycle) parts.old }
+{
+    for part in parts.iter_mut() {
+        part.step(platform, start, cycle);
+    }
+}
+
+// Makes each part of a bundle as it is when the application is granted.
+fn open_all<'b>(
+    alloc: Global,
+    platform: &Platform,
+    bundle: &'b Bundle,
+) -> Result<Vec<RunningPart<'b>>, NoMemory>
+    requires { IsWellFormed platform.now bundle.now }
+    ensures { IfOk result (λ parts. parts.items ≡ map opening_part bundle.entry.now.parts) }
+{
+    let mut parts = Vec::with_capacity(alloc, bundle.parts.len())?;
+    for part in bundle.parts.as_slice() {
+        parts.push_reserved(RunningPart::new(alloc, platform, part)?);
+    }
+    Ok(parts)
+}
+
+impl<'b> Application<'b> {
+    ghost use Rattle.bundle_model.specs.WellFormed.{IsWellFormed};
+    ghost use Rattle.alone_model.specs.App.{opening, app_cycle};
+
+    /// Makes an application as it is when it is granted.
+    pub fn new(
+        alloc: Global,
+        platform: &Platform,
+        bundle: &'b Bundle,
+    ) -> Result<Application<'b>, NoMemory>
+        requires { IsWellFormed platform.now bundle.now }
+        ensures { IfOk result (λ app. app ≡ opening bundle.entry.now) }
+    {
+        let parts = open_all(alloc, platform, bundle)?;
+        Ok(Application { parts })
+    }
+
+    /// Answers whether each part has ended.
+    pub fn has_ended(&self) -> bool
+        ensures { result ≡ list_all (λ p. has_ended p.state.log.end) self.now.parts }
+    {
+        self.parts.iter().all(|part| part.has_ended())
+    }
+
+    /// Answers the parts, in the order of the bundle.
+    pub fn parts(&self) -> &[RunningPart<'b>]
+        ensures { result.now ≡ self.now.parts }
+    {
+        self.parts.as_slice()
+    }
+
+    fn step(&mut self, platform: &Platform, start: u64, cycle: u64)
+        ensures { self.new ≡ app_cycle platform.now start cycle self.old }
+    {
+        step_all(self.parts.as_mut_slice(), platform, start, cycle);
+    }
+
+    /// Does the cycles from `from` to `to - 1` of an application that was granted from cycle `from` on.
+    #[tactic(auto, using(soc_base::proofs::StepLemmas::steps_none, soc_base::proofs::StepLemmas::steps_more))]
+    pub fn run(&mut self, platform: &Platform, from: u64, to: u64)
+        requires { from ≤ to }
+        ensures { self.new ≡ after_steps (app_cycle platform.now from) from (to - from) self.old }
+    {
+        for cycle in from..to {
+            // Nothing changes any more once every part has ended.
+            if self.has_ended() {
+                return;
+            }
+            self.step(platform, from, cycle);
+        }
+    }
+}

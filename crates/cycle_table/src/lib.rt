@@ -1,0 +1,10 @@
+//! What an instruction costs, in running cycles of its part.
+//!
+//! `specs/Cost` is the table: a cost goes by the registers and the word alone, so it can be told before
+//! the instruction has its effect.
+#![tactic(auto)]
+
+/// The cost of a word.
+mod table;
+
+pub use table::cost;

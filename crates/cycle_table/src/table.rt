@@ -1,0 +1,71 @@
+//! The cost of a word.
+
+ghost use Rattle.std.specs.Prelude.{◌≡◌, ◌<◌, ◌≤◌};
+ghost use Rattle.rv_core.specs.Table.{IsInRange};
+ghost use Rattle.cycle_table.specs.Cost.{cost_of, cost_of_instr, access_cost, reg_op_cost};
+
+use platform_model::Costs;
+use rv_core::{Instr, RegOp, Regs, decode};
+
+// The cost of an access: a device register's cost from address 0x80000000 on.
+fn access(costs: &Costs, memory: u8, addr: u32) -> u8
+    requires { (0 < memory) × (memory ≤ 64) }
+    ensures value { result ≡ access_cost costs.now memory addr }
+    ensures range { (0 < result) × (result ≤ 64) }
+{
+    if addr < 0x8000_0000 {
+        memory
+    } else {
+        costs.device
+    }
+}
+
+fn reg_op(costs: &Costs, op: RegOp) -> u8
+    ensures value { result ≡ reg_op_cost costs.now op }
+    ensures range { (0 < result) × (result ≤ 64) }
+{
+    match op {
+        RegOp::Mul | RegOp::Mulh | RegOp::Mulhsu | RegOp::Mulhu => costs.mul,
+        RegOp::Div | RegOp::Divu | RegOp::Rem | RegOp::Remu => costs.div,
+        _ => costs.integer,
+    }
+}
+
+// The cost of an instruction.
+fn instr_cost(costs: &Costs, regs: &Regs, instr: Instr) -> u8
+    requires { IsInRange instr }
+    ensures value { result ≡ cost_of_instr costs.now regs.now instr }
+    ensures range { (0 < result) × (result ≤ 64) }
+{
+    match instr {
+        Instr::Lui { .. } | Instr::Auipc { .. } | Instr::OpImm { .. } => costs.integer,
+        Instr::Op { op, .. } => reg_op(costs, op),
+        Instr::Load { rs1, imm, .. } => access(costs, costs.load, regs.address(rs1, imm)),
+        Instr::Store { rs1, imm, .. } => access(costs, costs.store, regs.address(rs1, imm)),
+        Instr::Branch { op, rs1, rs2, .. } => {
+            if op.is_taken(regs.read(rs1), regs.read(rs2)) {
+                costs.taken
+            } else {
+                costs.untaken
+            }
+        }
+        Instr::Jal { .. } | Instr::Jalr { .. } => costs.jump,
+        Instr::Fence { .. } | Instr::Ecall | Instr::Ebreak => costs.system,
+    }
+}
+
+/// Answers the cost of the word at pc, in running cycles from 1 to 64: by the registers as they are
+/// before the instruction, 1 where there is no word or it is no instruction.
+#[tactic(auto, unfolding(crate::specs::Cost::cost_of))]
+pub fn cost(costs: &Costs, regs: &Regs, word: Option<u32>) -> u8
+    ensures value { result ≡ cost_of costs.now regs.now word }
+    ensures range { (0 < result) × (result ≤ 64) }
+{
+    let Some(word) = word else {
+        return 1;
+    };
+    match decode(word) {
+        Some(instr) => instr_cost(costs, regs, instr),
+        None => 1,
+    }
+}

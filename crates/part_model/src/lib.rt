@@ -1,0 +1,15 @@
+//! One part of an application: a running cycle of its core on any bus, what its own bus answers, and
+//! the log that a cycle leaves.
+//!
+//! `specs/Running` is the cycle (fetch, cost, effect), `specs/Answers` the memory and device registers
+//! of a part, and `specs/Part` the part as a whole. The application alone and the physical tile are
+//! both made of these.
+#![tactic(auto)]
+
+/// What a cycle leaves in the log.
+mod record;
+/// The cycle of a running core.
+mod running;
+
+pub use record::{Place, record_outcome, trace};
+pub use running::run_cycle;

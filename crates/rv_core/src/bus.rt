@@ -1,0 +1,61 @@
+//! What a hart reads from and writes to.
+
+use soc_base::{Cause, Width};
+
+/// What a bus answers to a load or a store.
+#[derive(Clone, Copy, Debug, PartialEq, Eq)]
+pub enum Answer {
+    /// The access is done. A load's value stands here without extension; after a store it is 0.
+    Done(u32),
+    /// The access can't be done now. It may be tried again.
+    Stall,
+    /// The access can't be done at all.
+    Fault(Cause),
+}
+
+/// What a hart reads from and writes to. An impl says by `fetch_at`, `load_at` and `store_at` what its
+/// answers are, as functions of its state; contracts of the code that runs on a bus speak of those.
+pub trait Bus {
+    ghost use Rattle.std.specs.Prelude.{ℕ, Option, IfSome, ◌≡◌, ◌<◌, ◌^◌};
+    ghost use Rattle.soc_base.specs.declared.region.Width.{Width};
+    ghost use Rattle.rv_core.specs.declared.bus.Answer.{Answer};
+    ghost use Rattle.rv_core.specs.Access.{IsLoaded, IsStored, IsKeptUnlessDone};
+
+    /// What the bus holds, as contracts see it.
+    ghost State: { Type 0 };
+
+    ghost state: { Self → State };
+
+    /// What no access changes: the places that the bus borrows from, and whatever else it holds that
+    /// no access reaches. An impl without either takes `Unit {0}`.
+    ghost Kept: { Type 0 };
+
+    ghost kept: { Self → Kept };
+
+    ghost fetch_at: { State → ℕ → Option ℕ };
+
+    ghost load_at: { State → ℕ → Width → Answer × State };
+
+    ghost store_at: { State → ℕ → Width → ℕ → Answer × State };
+
+    /// Answers the instruction word at `pc`, if there is one. Changes nothing.
+    fn fetch(&self, pc: u32) -> Option<u32>
+        ensures word { result ≡ fetch_at (state self.now) pc }
+        ensures bound { IfSome result (λ word. word < 2 ^ 32) };
+
+    /// Loads from an address, which needs not be a multiple of the width.
+    fn load(&mut self, addr: u32, width: Width) -> Answer
+        ensures answer { result ≡ (load_at (state self.old) addr width).0 }
+        ensures state { state self.new ≡ (load_at (state self.old) addr width).1 }
+        ensures bound { IsLoaded width result }
+        ensures refused { IsKeptUnlessDone result (state self.old) (state self.new) }
+        ensures kept { kept self.new ≡ kept self.old };
+
+    /// Stores the low bytes of a value at an address, which needs not be a multiple of the width.
+    fn store(&mut self, addr: u32, width: Width, value: u32) -> Answer
+        ensures answer { result ≡ (store_at (state self.old) addr width value).0 }
+        ensures state { state self.new ≡ (store_at (state self.old) addr width value).1 }
+        ensures bound { IsStored result }
+        ensures refused { IsKeptUnlessDone result (state self.old) (state self.new) }
+        ensures kept { kept self.new ≡ kept self.old };
+}

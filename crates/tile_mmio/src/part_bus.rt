@@ -1,0 +1,161 @@
+//! The bus of one part.
+
+ghost use Rattle.std.specs.Prelude.{◌≡◌, ◌%◌, ◌==◌, ◌^◌, ◌≤◌};
+ghost use Rattle.soc_base.specs.Widths.{width_bytes};
+ghost use Rattle.part_model.specs.Answers.{cause_of, memory_answer, device_load};
+ghost use Rattle.tile_memory.specs.Bytes.{IsInside};
+
+use part_model::{Place, trace};
+use rv_core::{Answer, Bus, Cause};
+use tile_memory::{MemFault, Region, TileMemory, Width};
+use trace_log::{Kind, PartLog};
+
+/// The first address of the device registers.
+const DEVICES: u32 = 0x8000_0000;
+/// The register that a part stores the words of its trace to.
+const TRACE: u32 = 0x8000_0000;
+/// The low word of the current cycle.
+const CYCLE: u32 = 0x8000_0004;
+/// The high word of the current cycle.
+const CYCLEH: u32 = 0x8000_0008;
+
+/// The bus of one part in one cycle: addresses below 0x80000000 are the part's region, and from there
+/// on stand the device registers TRACE (80000000, stored), CYCLE and CYCLEH (80000004 and 80000008,
+/// loaded), each a word.
+#[derive(Drop)]
+pub struct PartBus<'a> {
+    memory: &'a mut TileMemory,
+    region: Region,
+    log: &'a mut PartLog,
+    place: Place,
+    cycle: u64,
+    ghost inside: { IsInside memory.now region },
+}
+
+impl<'a> PartBus<'a> {
+    ghost use Rattle.tile_memory.specs.Bytes.{region_bytes};
+    ghost use Rattle.tile_mmio.specs.State.{bus_state, bus_loans, bus_memory, bus_region};
+
+    /// Makes the bus of a part in a cycle. The part's region lies in the memory; `kinds` is the set of
+    /// kinds of rows that the part names. Takes no memory.
+    pub fn new(
+        memory: &'a mut TileMemory,
+        region: Region,
+        log: &'a mut PartLog,
+        kinds: u8,
+        tile: u8,
+        cycle: u64,
+    ) -> PartBus<'a>
+        requires { IsInside memory.old region }
+        ensures loans { bus_loans result ≡ (memory.entry.ghost_name, log.entry.ghost_name) }
+        ensures memory { bus_memory result ≡ memory.old }
+        ensures region { bus_region result ≡ region }
+        ensures state { bus_state result ≡ record { bytes = region_bytes memory.old region; log = log.old; place = record { tile = tile; kinds = kinds }; cycle = cycle } }
+    {
+        PartBus {
+            memory,
+            region,
+            log,
+            place: Place { tile, kinds },
+            cycle,
+        }
+    }
+}
+
+fn cause(fault: MemFault) -> Cause
+    ensures { result ≡ cause_of fault }
+{
+    match fault {
+        MemFault::Align => Cause::Align,
+        MemFault::Outside => Cause::Access,
+    }
+}
+
+// What the bus answers for what a load from the memory gave.
+fn answer(loaded: Result<u32, MemFault>) -> Answer
+    ensures { result ≡ memory_answer loaded }
+{
+    match loaded {
+        Ok(value) => Answer::Done(value),
+        Err(fault) => Answer::Fault(cause(fault)),
+    }
+}
+
+fn is_aligned(addr: u32, width: Width) -> bool
+    ensures { result ≡ (addr % width_bytes width == 0) }
+{
+    match width {
+        Width::Byte => true,
+        Width::Half => addr % 2 == 0,
+        Width::Word => addr % 4 == 0,
+    }
+}
+
+// What a load from a device register answers.
+fn device_load(cycle: u64, addr: u32, width: Width) -> Answer
+    ensures { result ≡ device_load cycle addr width }
+{
+    if !is_aligned(addr, width) {
+        return Answer::Fault(Cause::Align);
+    }
+    if width != Width::Word {
+        return Answer::Fault(Cause::Access);
+    }
+    match addr {
+        CYCLE => Answer::Done((cycle % 0x1_0000_0000) as u32),
+        CYCLEH => Answer::Done((cycle / 0x1_0000_0000) as u32),
+        _ => Answer::Fault(Cause::Access),
+    }
+}
+
+impl<'a> Bus for PartBus<'a> {
+    ghost use Rattle.std.specs.Prelude.{ℕ, List};
+    ghost use Rattle.std.specs.Borrow.{GName};
+    ghost use Rattle.soc_base.specs.declared.region.Region.{Region};
+    ghost use Rattle.part_model.specs.Answers.{BusState, fetch_answer, load_answer, store_answer};
+    ghost use Rattle.tile_mmio.specs.State.{bus_state, bus_rest};
+
+    ghost State = { BusState };
+
+    ghost state = { bus_state };
+
+    ghost Kept = { (GName × GName) × Region × List ℕ × List ℕ × ℕ };
+
+    ghost kept = { bus_rest };
+
+    ghost fetch_at = { fetch_answer };
+
+    ghost load_at = { load_answer };
+
+    ghost store_at = { store_answer };
+
+    fn fetch(&self, pc: u32) -> Option<u32> {
+        self.memory.fetch(self.region, pc)
+    }
+
+    #[tactic(auto, unfolding(part_model::specs::Answers::load_answer))]
+    fn load(&mut self, addr: u32, width: Width) -> Answer {
+        if addr < DEVICES {
+            return answer(self.memory.load(self.region, addr, width));
+        }
+        device_load(self.cycle, addr, width)
+    }
+
+    #[tactic(auto, unfolding(part_model::specs::Answers::store_answer))]
+    fn store(&mut self, addr: u32, width: Width, value: u32) -> Answer {
+        if addr < DEVICES {
+            return match self.memory.store(self.region, addr, width, value) {
+                Ok(()) => Answer::Done(0),
+                Err(fault) => Answer::Fault(cause(fault)),
+            };
+        }
+        if !is_aligned(addr, width) {
+            return Answer::Fault(Cause::Align);
+        }
+        if addr == TRACE && width == Width::Word {
+            trace(self.log, self.place, self.cycle, Kind::Word, value);
+            return Answer::Done(0);
+        }
+        Answer::Fault(Cause::Access)
+    }
+}
