@@ -1,5 +1,5 @@
 -- A file breaks one rule alone, or gives a platform.
-use Rattle.std.proofs.Common.{◌≡◌, ℕ, List, Option, Some, None, sym, ap, ◌∙◌}
+use Rattle.std.proofs.Common.{◌≡◌, ℕ, List, Some, None, sym, ap, ◌∙◌}
 use Rattle.toml_keys.proofs.Documents.{reads_one}
 use Rattle.platform_model.specs.declared.platform.Platform.{Platform}
 use Rattle.platform_model.specs.declared.rules.PRule.{PRule}

@@ -1,5 +1,5 @@
 -- A platform is told by its raw numbers.
-use Rattle.std.proofs.Common.{◌≡◌, ℕ, List, [], ◌∷◌, pos, map, refl, sym, ap, ◌∙◌}
+use Rattle.std.proofs.Common.{◌≡◌, List, [], ◌∷◌, map, refl, sym, ap, ◌∙◌}
 use Rattle.std.specs.Prelude.{nat_abs}
 use Rattle.platform_model.specs.Links.{raw_link}
 use Rattle.platform_model.specs.Platform.{raw_of, raw_costs}
