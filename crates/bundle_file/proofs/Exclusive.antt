@@ -1,5 +1,5 @@
 -- On one platform a file breaks one rule alone, or gives a bundle.
-use Rattle.std.proofs.Common.{◌≡◌, ℕ, List, Option, Some, None, sym, ap, ◌∙◌}
+use Rattle.std.proofs.Common.{◌≡◌, ℕ, List, Some, None, sym, ap, ◌∙◌}
 use Rattle.toml_keys.proofs.Documents.{reads_one}
 use Rattle.platform_model.specs.declared.platform.Platform.{Platform}
 use Rattle.bundle_model.specs.Bundle.{bundle_of}
