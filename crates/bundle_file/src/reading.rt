@@ -44,7 +44,7 @@ fn judge(alloc: Global, table: &Table, platform: &Platform) -> Result<Bundle, Bu
 /// `bundle_model::check`.
 #[tactic(auto, unfolding(crate::specs::Reading::least_rule))]
 pub fn read_bundle(alloc: Global, bytes: &[u8], platform: &Platform) -> Result<Bundle, BundleFault>
-    ensures value { IfOk result (λ bundle. Gives platform.now bytes.now bundle) }
+    ensures value { IfOk result (Gives platform.now bytes.now) }
     ensures well_formed { IfOk result (IsWellFormed platform.now) }
     ensures rule { (r : _) → result ≡ Err (BundleFault.Rule r) → Breaks platform.now bytes.now r }
 {

@@ -135,7 +135,7 @@ fn judge(alloc: Global, table: &Table) -> Result<Platform, PlatformFault>
 /// where a required key is missing or a key has another type, and the others as `Platform::check`.
 #[tactic(auto, unfolding(crate::specs::Reading::least_rule))]
 pub fn read_platform(alloc: Global, bytes: &[u8]) -> Result<Platform, PlatformFault>
-    ensures value { IfOk result (λ platform. Gives bytes.now platform) }
+    ensures value { IfOk result (Gives bytes.now) }
     ensures rule { (r : _) → result ≡ Err (PlatformFault.Rule r) → Breaks bytes.now r }
 {
     match read_document(alloc, bytes) {
