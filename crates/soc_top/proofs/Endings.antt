@@ -10,12 +10,12 @@ use Rattle.soc_top.specs.declared.refusal.Refusal.{Refusal}
 use Rattle.soc_top.specs.declared.refusal.Refusal.TheVariants.{AbsentPlatform, UnreadPlatform, BrokenPlatform, AbsentBundle, UnreadBundle, BrokenBundle, NoMemory}
 use Rattle.soc_top.specs.declared.alone.Ending.{Ending}
 use Rattle.soc_top.specs.declared.alone.Ending.TheVariants.{Done, Unwritten, Refused}
-use Rattle.soc_top.specs.Files.{HoldsPlatform, HoldsBundle}
+use Rattle.soc_top.specs.Files.{HoldsPlatform, HoldsBundle, BreaksBundle}
 use Rattle.soc_top.specs.Lines.{memory_line, refusal_line, status_of}
 use Rattle.soc_top.specs.Exchange.{Exchange, Says}
 use Rattle.soc_top.specs.Alone.{ToldCause, Cause, Refuses, IsDecided, AloneText, TextOf, Ends, ending_status, AloneAnswers}
 use Rattle.soc_top.proofs.Causes.{memory_cause}
-use Rattle.soc_top.proofs.Exclusive.{platform_or_rule, bundle_or_rule, same_numbers}
+use Rattle.soc_top.proofs.Exclusive.{platform_or_rule, one_platform, bundle_or_rule}
 
 none_or_some : (o : Option (List ℕ)) (bytes : List ℕ) → o ≡ None → o ≡ Some bytes → ⊥
 none_or_some o bytes none some = cc
@@ -28,7 +28,8 @@ undecided held request p b (BrokenPlatform rule) holds gives breaks = platform_o
 undecided held request p b AbsentBundle holds gives (q, held_q, none) = none_or_some _ gives.0 none gives.1
 undecided held request p b UnreadBundle holds gives impossible = impossible
 undecided held request p b (BrokenBundle rule) holds gives (q, held_q, breaks) =
-    bundle_or_rule p q held request.bundle b rule (same_numbers held request.platform p q holds held_q) gives breaks
+    let same = one_platform held request.platform q p held_q holds in
+    bundle_or_rule p held request.bundle b rule gives (subst (λ x. BreaksBundle x held request.bundle rule) same breaks)
 undecided held request p b NoMemory holds gives impossible = impossible
 
 -- a refusal without a fault of reading or want of memory is decided by the files

@@ -1,4 +1,3 @@
 pub mod Causes
-pub mod SamePlatform
 pub mod Exclusive
 pub mod Endings
