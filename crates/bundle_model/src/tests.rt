@@ -1,7 +1,7 @@
 //! Tests over whole bundles: which rule raw values break, what a bundle is made of, and what it
 //! holds.
 
-use crate::{BRule, BundleFault, RawBundle, RawPart, Resource, check, meets, resources};
+use crate::{BRule, BundleFault, RawBundle, RawPart, Resource, Schedule, check, meets, resources};
 use platform_model::{Platform, RawCosts, RawPlatform};
 use soc_base::{Items, Text};
 use std::alloc::Global;
@@ -294,4 +294,12 @@ fn meets_where_a_byte_is_shared(rt: HostRuntime) {
     assert!(rt; meets(&slot, &Resource::Inject { tile: 0, slot: 3 }));
     assert!(rt; !meets(&slot, &Resource::Inject { tile: 0, slot: 4 }));
     assert!(rt; !meets(&slot, &Resource::Deliver { tile: 0, slot: 3 }));
+}
+
+#[test]
+fn begins_with_no_grant(rt: HostRuntime) -> Result<(), Fail> {
+    let schedule = Schedule::new(rt.alloc(), 256)?;
+    assert!(rt; schedule.grants.is_empty());
+    assert_eq!(rt; schedule.horizon, 0);
+    Ok(())
 }
