@@ -21,3 +21,6 @@ pub use inputs::Inputs;
 pub use refusal::Refusal;
 pub use request::{AloneWords, Request, WordsFault, read_words};
 pub use top::compsoc;
+
+#[cfg(test)]
+mod tests;
