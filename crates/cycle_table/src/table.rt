@@ -20,6 +20,7 @@ fn access(costs: &Costs, memory: u8, addr: u32) -> u8
     }
 }
 
+// The cost of an operation on two registers.
 fn reg_op(costs: &Costs, op: RegOp) -> u8
     ensures value { result ≡ reg_op_cost costs.now op }
     ensures range { (0 < result) × (result ≤ 64) }

@@ -44,10 +44,11 @@ fn effect<B: Bus>(regs: &mut Regs, bus: &mut B, word: Option<u32>) -> Outcome
     execute(regs, bus, instr)
 }
 
-/// Does one running cycle of a core on a bus: fetches the word at pc where no instruction is under way,
-/// counts its cost down, and in the last cycle of the cost does the instruction. `left` is the number
-/// of cycles that the instruction under way needs still, 0 where there is none. Answers what the
-/// instruction came to, or None where it needs more cycles; registers change on `Next` alone.
+/// Does one running cycle of a core on a bus: fetches the word at pc, counts its cost down, and in the
+/// last cycle of the cost does the instruction. `left` is the number of cycles that the instruction
+/// under way needs still, 0 where there is none: the cost is then told from the registers as they are.
+/// Answers what the instruction came to, or None where it needs more cycles; registers change on `Next`
+/// alone.
 #[tactic(auto, unfolding(crate::specs::Running::running_cycle))]
 pub fn run_cycle<B: Bus>(
     costs: &Costs,

@@ -1,5 +1,5 @@
 -- A tile's memory as the list of its bytes, and the regions that parts see. Numbers are little-endian.
-use Rattle.std.specs.Prelude.{◌≡◌, ℕ, Bool, ◌+◌, ◌-◌, ◌*◌, ◌%◌, ◌≤◌, ◌==◌, List, ◌++◌, length, take, drop, replicate, nat_lt, nat_le, not, if◌then◌else◌, Option, Some, None, Result, Ok, Err}
+use Rattle.std.specs.Prelude.{ℕ, ◌+◌, ◌-◌, ◌*◌, ◌%◌, ◌≤◌, ◌==◌, List, ◌++◌, length, take, drop, replicate, nat_lt, nat_le, not, if◌then◌else◌, Option, Some, None, Result, Ok, Err}
 use Rattle.std.specs.List.{flat_map}
 use Rattle.byteorder.specs.Endian.{little_number, little_bytes}
 use Rattle.soc_base.specs.declared.region.Region.{Region}

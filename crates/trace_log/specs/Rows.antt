@@ -1,5 +1,4 @@
 -- The order of rows.
-use Rattle.std.specs.Prelude.{ℕ}
 use Rattle.std.specs.Ordering.{nat_cmp, on, then_cmp}
 use Rattle.std.specs.declared.cmp.Ordering.{Ordering}
 use Rattle.trace_log.specs.declared.row.TraceRow.{TraceRow}
