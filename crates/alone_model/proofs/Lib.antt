@@ -1,4 +1,3 @@
 pub mod Ended
 pub mod Merged
 pub mod Opening
-pub mod Slots

@@ -1,7 +1,6 @@
 -- What a memory of a part's own holds when its application is granted.
-use Rattle.std.proofs.Common.{◌≡◌, ℕ, ◌*◌, ◌≤◌, List, length, replicate, subst, sym, arith}
+use Rattle.std.proofs.Common.{◌≡◌, ℕ, ◌*◌, ◌≤◌, List, length, replicate, arith}
 use Rattle.std.proofs.lemmas.List.{length-replicate}
-use Rattle.soc_base.specs.declared.region.Region.{Region}
 use Rattle.bundle_model.specs.declared.bundle.Part.{Part}
 use Rattle.tile_memory.specs.Bytes.{IsInside, region_bytes, with_region, filled_bytes}
 use Rattle.tile_memory.proofs.Regions.{length-with_region, region-with_region, length-filled_bytes}

@@ -16,5 +16,9 @@ mod schedule;
 /// Traces.
 mod trace;
 
+/// A small program followed alone.
+#[cfg(test)]
+mod tests;
+
 pub use engine::alone;
 pub use trace::{AppTrace, PartTrace};

@@ -9,4 +9,8 @@ mod alone_text;
 /// Lines of a trace.
 mod lines;
 
+/// The text of a trace, byte for byte.
+#[cfg(test)]
+mod tests;
+
 pub use alone_text::write_trace;

@@ -1,4 +1,4 @@
-use Rattle.std.proofs.Common.{◌≡◌, arith}
+use Rattle.std.proofs.Common.{arith}
 use Rattle.std.proofs.lemmas.List.Edits.{map_over_more}
 use Rattle.alone_model.specs.App.{part_step}
 use Rattle.alone_model.proofs.application.step_all.Goals as goal
