@@ -120,10 +120,7 @@ text_undecided e request text is held refusal told decided =
 pub answers_of : (e : Exchange) (request : AloneWords) (ending : Ending) → Ends e request ending → AloneAnswers e request (ending_status ending)
 answers_of e request Done (text, is, written) = record {
   statuses = (Done, refl);
-  done = λ _ held old told before.
-      let P : Option Held → Type 0 = λ h. TextOf h request text in
-      let Q : Option (List ℕ) → Type 0 = λ w. Appends w text e.written_now in
-      (text, subst P told is, subst Q before written);
+  done = λ _. (text, is, written);
   platform = λ h. absurd (omega (arith, h));
   bundle = λ h. absurd (omega (arith, h));
   absent = λ h. absurd (omega (arith, h));
@@ -142,9 +139,7 @@ answers_of e request Unwritten (text, is, front, rose) = record {
   absent = λ h. absurd (omega (arith, h));
   unread = λ h. absurd (omega (arith, h));
   unwritten = λ _. rose;
-  front = λ _ held told.
-      let P : Option Held → Type 0 = λ h. TextOf h request text in
-      (text, subst P told is, front);
+  front = λ _. (text, is, front);
   memory = λ h. absurd (omega (arith, h));
   decided = λ held refusal told _ decided. absurd (text_undecided e request text is held refusal told decided);
   complete = λ _ _ _ _ _ steady _ _. absurd (steady rose);

@@ -1,5 +1,5 @@
 -- The command `alone`: in which order it is decided, and what it writes.
-use Rattle.std.specs.Prelude.{◌≡◌, ℕ, Bool, ◌++◌, ◌⊎◌, max, List, Option, Some, None, Result, Ok, Err}
+use Rattle.std.specs.Prelude.{◌≡◌, ℕ, Bool, ◌⊎◌, max, List, Option, Some, None, Result, Ok, Err}
 use Rattle.soc_base.specs.Time.{slot_up_of}
 use Rattle.soc_io.specs.Counts.{Rose}
 use Rattle.soc_io.specs.Reading.{Held, held_at}
@@ -116,7 +116,7 @@ pub record AloneAnswers (e : Exchange) (request : AloneWords) (status : ℕ) : T
   -- these statuses come and no other
   pub statuses : (ending : Ending) × (status ≡ ending_status ending)
   -- 0: the text of the trace was written
-  pub done : status ≡ 0 → (held : Held) (old : List ℕ) → e.held ≡ Some held → e.written ≡ Some old → (text : List ℕ) × AloneText held request text × (e.written_now ≡ Some (old ++ text))
+  pub done : status ≡ 0 → (text : List ℕ) × TextOf e.held request text × Appends e.written text e.written_now
   -- 2: the platform file breaks this rule; 3: the bundle file does
   pub platform : status ≡ 2 → (rule : PRule) × Refuses e request (BrokenPlatform rule)
   pub bundle : status ≡ 3 → (rule : BRule) × Refuses e request (BrokenBundle rule)
@@ -125,7 +125,7 @@ pub record AloneAnswers (e : Exchange) (request : AloneWords) (status : ℕ) : T
   pub unread : status ≡ 5 → Refuses e request UnreadPlatform ⊎ Refuses e request UnreadBundle
   -- 6: a write of the text failed, and a front of it was written
   pub unwritten : status ≡ 6 → Rose e.write_faults e.write_faults_now
-  pub front : status ≡ 6 → (held : Held) → e.held ≡ Some held → (text : List ℕ) × AloneText held request text × AppendsFront e.written text e.written_now
+  pub front : status ≡ 6 → (text : List ℕ) × TextOf e.held request text × AppendsFront e.written text e.written_now
   -- 7: want of memory
   pub memory : status ≡ 7 → Refuses e request NoMemory
   -- what the files refuse is refused, where no read fails

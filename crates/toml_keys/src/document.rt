@@ -14,7 +14,7 @@ pub const DOCUMENT_LIMIT: usize = 4_194_304;
 /// Why a file was not read.
 #[derive(Clone, Copy, Debug, PartialEq, Eq, Error)]
 pub enum DocumentFault {
-    /// The bytes are longer than 4 MiB, aren't UTF-8 or aren't a document of TOML 1.1.
+    /// The bytes are longer than 4 MiB, aren't UTF-8 or aren't a document of the library `toml`.
     #[error("no document")]
     NoDocument,
     /// Memory was wanted and not had.
