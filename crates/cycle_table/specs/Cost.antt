@@ -1,18 +1,19 @@
 -- What an instruction costs, in running cycles. The address of an access and the outcome of a branch
 -- are judged by the registers before the instruction.
-use Rattle.std.specs.Prelude.{ℕ, ◌^◌, nat_lt, if◌then◌else◌, Option, Some, None}
+use Rattle.std.specs.Prelude.{ℕ, ◌^◌, nat_lt, if◌then◌else◌, Option}
 use Rattle.std.specs.Option.{option_map_or, option_and_then}
 use Rattle.platform_model.specs.declared.costs.Costs.{Costs}
 use Rattle.rv_core.specs.declared.instr.Instr.{Instr}
 use Rattle.rv_core.specs.declared.instr.Instr.TheVariants.{Lui, Auipc, Jal, Jalr, Branch, Load, Store, OpImm, Op, Fence, Ecall, Ebreak}
 use Rattle.rv_core.specs.declared.instr.RegOp.{RegOp}
-use Rattle.rv_core.specs.declared.instr.RegOp.TheVariants.{Add, Sub, Sll, Slt, Sltu, Xor, Srl, Sra, Or, And, Mul, Mulh, Mulhsu, Mulhu, Div, Divu, Rem, Remu}
+use Rattle.rv_core.specs.declared.instr.RegOp.TheVariants.{Mul, Mulh, Mulhsu, Mulhu, Div, Divu, Rem, Remu}
 use Rattle.rv_core.specs.Registers.{Registers, register_at}
 use Rattle.rv_core.specs.Arithmetic.{is_taken}
 use Rattle.rv_core.specs.Effect.{address_of}
 use Rattle.rv_core.specs.Decoding.{decode_of}
 
--- a load or a store: a device register stands at each address from 0x80000000 on
+-- a load or a store: `memory` below address 0x80000000, and from there on the cost of a device,
+-- whatever stands there
 abbrev pub access_cost : Costs → ℕ → ℕ → ℕ
 access_cost costs memory addr = if nat_lt addr (2 ^ 31) then memory else costs.device
 

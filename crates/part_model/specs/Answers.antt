@@ -11,7 +11,6 @@ use Rattle.rv_core.specs.declared.bus.Answer.TheVariants.{Done, Fault}
 use Rattle.tile_memory.specs.declared.memory.MemFault.{MemFault}
 use Rattle.tile_memory.specs.declared.memory.MemFault.TheVariants.{Align as Misaligned, Outside}
 use Rattle.tile_memory.specs.Bytes.{fetch_of, load_of, refusal_of, stored_bytes}
-use Rattle.trace_log.specs.declared.row.TraceRow.{TraceRow}
 use Rattle.trace_log.specs.declared.row.Kind.{Kind}
 use Rattle.trace_log.specs.declared.row.Kind.TheVariants.{Word as TraceWord}
 use Rattle.trace_log.specs.Kinds.{has_kind}

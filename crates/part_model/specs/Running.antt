@@ -2,7 +2,6 @@
 -- the last cycle of its cost the instruction has its effect.
 use Rattle.std.specs.Prelude.{ℕ, ◌-◌, ◌==◌, nat_lt, if◌then◌else◌, Option, Some, None}
 use Rattle.soc_base.specs.declared.region.Width.{Width}
-use Rattle.soc_base.specs.declared.cause.Cause.{Cause}
 use Rattle.soc_base.specs.declared.cause.Cause.TheVariants.{Illegal, Fetch}
 use Rattle.platform_model.specs.declared.costs.Costs.{Costs}
 use Rattle.rv_core.specs.declared.instr.Instr.{Instr}

@@ -11,9 +11,9 @@ pub struct Costs {
     pub mul: u8,
     /// A division or a remainder.
     pub div: u8,
-    /// A load from the region.
+    /// A load from an address below 0x80000000.
     pub load: u8,
-    /// A store to the region.
+    /// A store to an address below 0x80000000.
     pub store: u8,
     /// A branch that is taken.
     pub taken: u8,
@@ -21,7 +21,7 @@ pub struct Costs {
     pub untaken: u8,
     /// A jump.
     pub jump: u8,
-    /// A load or a store at a device register.
+    /// A load or a store at an address from 0x80000000 on.
     pub device: u8,
     /// FENCE, ECALL and EBREAK.
     pub system: u8,

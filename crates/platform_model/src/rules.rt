@@ -48,7 +48,7 @@ pub enum PRule {
 #[derive(Clone, Copy, Debug, PartialEq, Eq, Error)]
 pub enum PlatformFault {
     /// This rule is broken, and none before it.
-    #[error("{0}")]
+    #[error("the platform file breaks a rule")]
     Rule(PRule),
     /// Memory was wanted and not had.
     #[error("no memory")]

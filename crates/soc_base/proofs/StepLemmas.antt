@@ -1,5 +1,5 @@
 -- How a state goes on from one number of steps to another.
-use Rattle.std.proofs.Common.{◌≡◌, ℕ, zero, suc, ◌+◌, ◌-◌, ◌<◌, ◌≤◌, ◌∙◌, ap, subst, sym, refl, arith}
+use Rattle.std.proofs.Common.{◌≡◌, ℕ, zero, suc, ◌+◌, ◌-◌, ◌≤◌, ◌∙◌, ap, subst, sym, refl, arith}
 use Rattle.soc_base.specs.Steps.{after_steps}
 
 -- no step changes nothing

@@ -12,7 +12,8 @@ pub enum Cause {
     Target,
     /// The address of a load or a store isn't a multiple of its width.
     Align,
-    /// The address of a load or a store is neither in the region nor a device register.
+    /// The bytes of a load or a store aren't all in the region, and no device register is loaded or
+    /// stored so.
     Access,
     /// EBREAK.
     Break,

@@ -12,7 +12,7 @@ pub enum NumFault {
     #[error("a number is expected")]
     Empty,
     /// The first byte that is no decimal digit stands at this place, counted from 0.
-    #[error("no digit at place {0}")]
+    #[error("a byte is no decimal digit")]
     Digit(usize),
     /// The value is above the limit.
     #[error("the number is too large")]
