@@ -3,8 +3,9 @@
 //!
 //! `specs/` has the meanings: `Sets` (bit sets as lists), `Rules` (the rules B4 to B14 and the
 //! least that is broken), `Bundle` (the bundle that raw values mean), `WellFormed` (what a bundle
-//! is that breaks no rule), `Resources` (what a bundle holds, and which resources meet) and
-//! `Grants` (grants that conflict, and grants that are apart).
+//! is that breaks no rule), `Resources` (what a bundle holds, and which resources meet),
+//! `Grants` (grants that conflict, and grants that are apart) and `World` (a catalog of bundles, and
+//! the loads that name them).
 #![tactic(auto)]
 
 /// Whether raw values break a rule.

@@ -55,7 +55,7 @@ pub enum BRule {
 #[derive(Clone, Copy, Debug, PartialEq, Eq, Error)]
 pub enum BundleFault {
     /// This rule is broken, and none before it.
-    #[error("{0}")]
+    #[error("the bundle file breaks a rule")]
     Rule(BRule),
     /// Memory was wanted and not had.
     #[error("no memory")]
