@@ -1,0 +1,144 @@
+//! Judging one line.
+
+ghost use Rattle.std.specs.Prelude.{◌≡◌, if◌then◌else◌, map, take, IfOk, IsTrue, Ok, Err, None};
+ghost use Rattle.std.specs.List.{list_all};
+ghost use Rattle.std.specs.Str.{bytes_eq};
+ghost use Rattle.std.specs.Str.Lines.{strip_carriage_return};
+ghost use Rattle.script_file.specs.Lines.{is_blank, words_of};
+ghost use Rattle.script_file.specs.Commands.{command_of, is_name, is_name_byte as is_byte_of_name, is_remark, is_within as is_in_range, line_meaning, load_of};
+
+use crate::command::Command;
+use crate::rules::SRule;
+use soc_base::{NoMemory, Text, read_number};
+use std::alloc::{AllocError, Global};
+
+/// The greatest cycle that a script may state.
+const CYCLE_LIMIT: u64 = 1_000_000_000_000;
+
+/// The most bytes of a name.
+const NAME_LIMIT: usize = 200;
+
+/// How many words of a line are looked at: one more than the longest command has, so that a line with
+/// too many words is told from it, and memory for words does not grow with the line.
+const WORDS_READ: usize = 5;
+
+/// Answers what a line means, given with its carriage return, if it has one: a command, or none in a blank
+/// line and in a comment, or the least rule that the line breaks.
+pub fn judge(alloc: Global, line: &[u8]) -> Result<Result<Option<Command>, SRule>, NoMemory>
+    ensures { IfOk result (λ meaning. meaning ≡ line_meaning (strip_carriage_return line.now)) }
+{
+    let words = words(alloc, without_return(line))?;
+    judge_words(alloc, &words)
+}
+
+// The line without one carriage return at its end.
+fn without_return(line: &[u8]) -> &[u8]
+    ensures { result.now ≡ strip_carriage_return line.now }
+{
+    match line.split_last() {
+        Some((last, front)) if *last == b'\r' => front,
+        _ => line,
+    }
+}
+
+// The first five words of a line.
+fn words(alloc: Global, line: &[u8]) -> Result<Vec<&[u8]>, AllocError>
+    ensures { IfOk result (λ words. map (λ word. word.now) words.items ≡ take 5 (words_of line.now)) }
+{
+    line.split(|byte| is_separator(*byte))
+        .filter(|word| word.len() > 0)
+        .take(WORDS_READ)
+        .collect(alloc)
+}
+
+// Whether a byte separates words.
+fn is_separator(byte: u8) -> bool
+    ensures { result ≡ is_blank byte }
+{
+    byte == b' ' || byte == b'\t'
+}
+
+// What the words of a line mean.
+fn judge_words(alloc: Global, words: &[&[u8]]) -> Result<Result<Option<Command>, SRule>, NoMemory>
+    ensures { IfOk result (λ meaning. meaning ≡ (if is_remark (map (λ word. word.now) words.now) then Ok None else command_of (map (λ word. word.now) words.now))) }
+{
+    match words {
+        [] => Ok(Ok(None)),
+        [first, ..] if first.starts_with(b"#") => Ok(Ok(None)),
+        [load, name, at, cycle] if is_word(load, "load") && is_word(at, "at") => {
+            load_command(alloc, name, cycle)
+        }
+        _ => Ok(Err(SRule::S1)),
+    }
+}
+
+// Whether a word is this key word.
+fn is_word(word: &[u8], key: &str) -> bool
+    ensures { result ≡ bytes_eq word.now key.now }
+{
+    word == key.as_bytes()
+}
+
+// The command to load what this name names from this cycle on.
+fn load_command(
+    alloc: Global,
+    name: &[u8],
+    cycle: &[u8],
+) -> Result<Result<Option<Command>, SRule>, NoMemory>
+    ensures { IfOk result (λ meaning. meaning ≡ load_of name.now cycle.now) }
+{
+    if !is_bundle_name(name) {
+        return Ok(Err(SRule::S2));
+    }
+    let Ok(cycle) = read_number(cycle, CYCLE_LIMIT) else {
+        return Ok(Err(SRule::S3));
+    };
+    let name = name_text(alloc, name)?;
+    Ok(Ok(Some(Command::Load { name, cycle })))
+}
+
+// Whether a word is the name of a bundle file.
+fn is_bundle_name(word: &[u8]) -> bool
+    ensures { result ≡ is_name word.now }
+{
+    word.len() <= NAME_LIMIT && has_name_bytes(word)
+}
+
+// Whether each byte may stand in a name.
+fn has_name_bytes(word: &[u8]) -> bool
+    ensures { result ≡ list_all is_byte_of_name word.now }
+{
+    word.iter().all(|byte| is_name_byte(*byte))
+}
+
+// Whether a byte may stand in a name.
+fn is_name_byte(byte: u8) -> bool
+    ensures { result ≡ is_byte_of_name byte }
+{
+    is_within(byte, b'a', b'z')
+        || is_within(byte, b'A', b'Z')
+        || is_within(byte, b'0', b'9')
+        || byte == b'.'
+        || byte == b'_'
+        || byte == b'-'
+        || byte == b'/'
+}
+
+// Whether a byte is from this to that one.
+fn is_within(byte: u8, least: u8, most: u8) -> bool
+    ensures { result ≡ is_in_range byte least most }
+{
+    least <= byte && byte <= most
+}
+
+// The text of a name, whose bytes are all ASCII.
+#[tactic(auto, using(crate::proofs::Names::IsUtf8_from_name))]
+fn name_text(alloc: Global, name: &[u8]) -> Result<Text, NoMemory>
+    requires { IsTrue (is_name name.now) }
+    ensures { IfOk result (λ text. text ≡ name.now) }
+{
+    match std::str::from_utf8(name) {
+        Ok(name) => Ok(Text::from_str(alloc, name)?),
+        Err(_) => unreachable!(),
+    }
+}
