@@ -1,0 +1,9 @@
+pub mod Loads
+pub mod Setup
+pub mod History
+pub mod Replies
+pub mod Legal
+pub mod Granted
+pub mod Kept
+pub mod Claims
+pub mod Small

@@ -1,0 +1,37 @@
+//! The manager of virtual execution platforms: sessions' commands, the replies that they get, and the
+//! history that they make.
+//!
+//! `specs/Loads` names the load commands of a run, `specs/Setup` says what a sound setup is,
+//! `specs/History` what a history means (grants and horizon), `specs/Replies` what each command is
+//! answered, `specs/Legal` which histories are legal, complete and in rounds, and `specs/Granted` what is
+//! true of the grants of a legal history. `specs/Kept` says what a manager is seen as.
+#![tactic(auto)]
+
+/// What each bundle of a catalog holds.
+mod claims;
+/// The loads by name, and their grants.
+mod granting;
+/// How far the sessions have come.
+mod horizon;
+/// The load commands of a run.
+mod loads;
+/// Laws of setups and histories.
+mod laws;
+/// Committing commands, one at a time.
+mod manager;
+/// What a command is answered.
+mod reply;
+/// What a run knows beforehand.
+mod setup;
+
+/// Histories worked out by hand.
+#[cfg(test)]
+mod tests;
+
+pub use laws::{
+    complete_histories_are_settled, empty_history_is_legal, legal_grants_are_apart, loads_are_sound,
+};
+pub use loads::named_loads;
+pub use manager::Manager;
+pub use reply::{Entry, Reply};
+pub use setup::Setup;

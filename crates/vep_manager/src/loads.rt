@@ -1,0 +1,91 @@
+//! The load commands of a run, by name.
+
+ghost use Rattle.std.specs.Prelude.{◌≡◌, ◌≤◌, ◌+◌, ◌<◌, ◌^◌, ◌++◌, length, position, All, IfOk, OnOk};
+ghost use Rattle.std.specs.Option.{option_to_list};
+ghost use Rattle.std.specs.Str.{bytes_eq};
+ghost use Rattle.vep_manager.specs.Loads.{place_of, loaded_name, loaded_names, loads_from, loads_of};
+
+use bundle_model::{LoadName, Named};
+use script_file::{Command, Script};
+use soc_base::{Label, NoMemory};
+use std::alloc::Global;
+
+// The place of the first bundle file of a name, if there is one.
+fn first_of(catalog: &[Named], name: &str) -> Option<usize>
+    ensures { result ≡ position (λ named. bytes_eq named.name name.now) catalog.now }
+{
+    catalog.iter().position(|named| named.name.as_str() == name)
+}
+
+// The place of the first bundle file of a name; the length of the catalog where there is none.
+fn place(catalog: &[Named], name: &str) -> u16
+    requires { length catalog.now < 2 ^ 16 }
+    ensures { result ≡ place_of catalog.now name.now }
+{
+    match first_of(catalog, name) {
+        Some(place) => place as u16,
+        None => catalog.len() as u16,
+    }
+}
+
+// Appends the load of a command, if it is one, and answers the number of the next load.
+fn add_command(
+    loads: &mut Vec<LoadName>,
+    catalog: &[Named],
+    label: Label,
+    command: &Command,
+) -> Result<u16, NoMemory>
+    requires catalog { length catalog.now < 2 ^ 16 }
+    requires few { label.load ≤ 256 }
+    ensures added { OnOk result (loads.new.items ≡ loads.old.items ++ loads_from catalog.now label.session label.load (option_to_list (loaded_name command.now))) }
+    ensures next { IfOk result (λ next. next ≡ label.load + length (option_to_list (loaded_name command.now))) }
+{
+    match command {
+        Command::Load { name, cycle: _ } => {
+            let bundle = place(catalog, name.as_str());
+            loads.push(LoadName { label, bundle })?;
+            Ok(label.load + 1)
+        }
+        Command::Stop { .. } | Command::Until { .. } => Ok(label.load),
+    }
+}
+
+// Appends the loads of a session's commands.
+fn add_session(
+    loads: &mut Vec<LoadName>,
+    catalog: &[Named],
+    session: u8,
+    commands: &[Command],
+) -> Result<(), NoMemory>
+    requires catalog { length catalog.now < 2 ^ 16 }
+    requires few { length commands.now ≤ 256 }
+    ensures { OnOk result (loads.new.items ≡ loads.old.items ++ loads_from catalog.now session 1 (loaded_names commands.now)) }
+{
+    let mut load = 1;
+    for command in commands {
+        load = add_command(loads, catalog, Label { session, load }, command)?;
+    }
+    Ok(())
+}
+
+/// Lists the load commands of scripts by name: each once, in the order of the sessions, which are
+/// numbered from 1. There are at most 16 scripts, with at most 256 commands each.
+#[tactic(auto, unfolding(crate::specs::Loads::loads_of))]
+pub fn named_loads(
+    alloc: Global,
+    catalog: &[Named],
+    scripts: &[Script],
+) -> Result<Vec<LoadName>, NoMemory>
+    requires catalog { length catalog.now < 2 ^ 16 }
+    requires scripts { length scripts.now ≤ 16 }
+    requires commands { All (λ script. length script.commands ≤ 256) scripts.now }
+    ensures { IfOk result (λ loads. loads.items ≡ loads_of catalog.now scripts.now) }
+{
+    let mut loads = Vec::new(alloc);
+    let mut session = 1;
+    for script in scripts {
+        add_session(&mut loads, catalog, session, script.commands.as_slice())?;
+        session += 1;
+    }
+    Ok(loads)
+}
