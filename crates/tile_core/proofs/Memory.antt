@@ -1,0 +1,20 @@
+-- What a tile's memory is after its parts changed their regions.
+use Rattle.std.proofs.Common.{◌≡◌, ℕ, ◌+◌, ◌*◌, ◌≤◌, List, ◌++◌, length, take, drop, sym, ap, ◌∙◌}
+use Rattle.std.proofs.lemmas.List.{take-append-drop, drop-drop}
+use Rattle.soc_base.specs.declared.region.Region.{Region}
+use Rattle.tile_memory.specs.Bytes.{IsInside, region_bytes, with_region, filled_bytes}
+use Rattle.tile_memory.proofs.Regions.{length-with_region, length-filled_bytes}
+
+-- a memory that is filled keeps its size
+pub filled_kept : (memory new image : List ℕ) (region : Region) → IsInside memory region → 4 * length image ≤ region.len → new ≡ with_region memory region (filled_bytes region.len image) → length new ≡ length memory
+filled_kept memory new image region inside fits is =
+    rw is (length-with_region memory region (filled_bytes region.len image) inside (length-filled_bytes region.len image fits))
+
+-- a memory that is the same before and after a region differs in the region's bytes alone
+pub joined_region : (memory new bytes : List ℕ) (region : Region) → region_bytes new region ≡ bytes → take region.base new ≡ take region.base memory → drop (region.base + region.len) new ≡ drop (region.base + region.len) memory → new ≡ with_region memory region bytes
+joined_region memory new bytes region inner before after =
+    let behind : drop region.base new ≡ region_bytes new region ++ drop (region.base + region.len) new =
+    sym (take-append-drop region.len (drop region.base new)) ∙ ap (λ xs. region_bytes new region ++ xs) (drop-drop region.len region.base new) in
+    let whole : new ≡ take region.base new ++ (region_bytes new region ++ drop (region.base + region.len) new) =
+    sym (take-append-drop region.base new) ∙ ap (λ xs. take region.base new ++ xs) behind in
+    cc

@@ -1,0 +1,4 @@
+pub mod Tile
+pub mod Slot
+pub mod Lockstep
+pub mod Fit
