@@ -1,3 +1,4 @@
 pub mod Ended
 pub mod Merged
 pub mod Opening
+pub mod KeptLogs

@@ -1,0 +1,15 @@
+pub mod Places
+pub mod Homes
+pub mod Runs
+pub mod Frames
+pub mod Sizes
+pub mod Cycles
+pub mod Turns
+pub mod Starts
+pub mod Slots
+pub mod Keyed
+pub mod Meeting
+pub mod Neighbours
+pub mod Alone
+pub mod Found
+pub mod Standing
