@@ -1,0 +1,3 @@
+pub mod Run
+pub mod Stations
+pub mod Rounds

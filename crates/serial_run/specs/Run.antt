@@ -1,0 +1,34 @@
+-- What a rig needs to go on, and what a run ends with.
+use Rattle.std.specs.Prelude.{◌≡◌, ℕ, ◌*◌, ◌≤◌, List, map}
+use Rattle.bundle_model.specs.declared.world.World.{World}
+use Rattle.bundle_model.specs.declared.world.LoadName.{LoadName}
+use Rattle.bundle_model.specs.declared.world.Schedule.{Schedule}
+use Rattle.bundle_model.specs.Grants.{IsApart}
+use Rattle.bundle_model.specs.World.{IsSoundWorld, AreOfLoads}
+use Rattle.tile_core.specs.declared.station.Station.{Station}
+use Rattle.tile_core.specs.Tile.{TileState}
+use Rattle.tile_core.specs.Lockstep.{Machine, fresh_machine, lockstep}
+use Rattle.vep_manager.specs.declared.setup.Setup.{Setup}
+use Rattle.vep_manager.specs.declared.reply.Entry.{Entry}
+use Rattle.vep_manager.specs.History.{grants_of}
+use Rattle.serial_run.specs.declared.end.RunEnd.{RunEnd}
+
+-- the tiles of stations
+abbrev pub tiles_of : List Station → List TileState
+tiles_of stations = map (λ station. station.tile) stations
+
+-- What tiles before their first slot need to go on by a schedule up to a slot: the world is sound and
+-- the tiles are those of it and of its loads, the grants are apart and of these loads, and the horizon is
+-- at the slot or after it, and not after the greatest cycle at which a run may end.
+pub record CanFinish (world : World) (schedule : Schedule) (until : ℕ) (machine : Machine) : Type 0 where
+  pub loads : List LoadName
+  pub sound : IsSoundWorld world loads
+  pub fresh : machine ≡ fresh_machine world loads
+  pub apart : IsApart world schedule.grants.items
+  pub of_loads : AreOfLoads loads schedule.grants.items
+  pub reached : until ≤ schedule.horizon
+  pub bounded : schedule.horizon * world.platform.slot_cycles ≤ 1000000000063
+
+-- the tiles are those of the machine after the grants of a history, in step at the end of the run
+abbrev pub EndsInStep : Setup → RunEnd → Type 0
+EndsInStep setup end = tiles_of end.stations ≡ (lockstep setup.world setup.loads (grants_of setup end.history) setup.budget).tiles

@@ -1,0 +1,80 @@
+//! A run of all sessions.
+
+ghost use Rattle.std.specs.Prelude.{◌≡◌, ℕ, ◌+◌, ◌≤◌, [], false, length, IfOk};
+ghost use Rattle.bundle_model.specs.Grants.{IsApart};
+ghost use Rattle.vep_manager.specs.Setup.{IsSound};
+ghost use Rattle.vep_manager.specs.History.{IsSession, grants_of};
+ghost use Rattle.vep_manager.specs.Legal.{IsRoundRobin};
+ghost use Rattle.serial_run.specs.Run.{EndsInStep};
+ghost use Rattle.serial_run.specs.Rounds.{IsAtTurn};
+
+use crate::end::RunEnd;
+use crate::rig::Rig;
+use bundle_model::Schedule;
+use soc_base::{Items, NoMemory};
+use std::alloc::Global;
+use vep_manager::{Manager, Setup};
+
+// The most commands that a script has, and so the most rounds that are needed.
+const MOST_COMMANDS: u16 = 256;
+
+// Commits the next command of a session, if it has one, and answers whether it has.
+fn turn(manager: &mut Manager<'_>, session: u8) -> bool
+    requires { IsSession manager.old.setup session }
+    ensures setup { manager.new.setup ≡ manager.old.setup }
+    ensures turn { (rounds : ℕ) → IsAtTurn manager.old.setup rounds session manager.old.history → IsAtTurn manager.new.setup rounds (session + 1) manager.new.history }
+    ensures idle { result ≡ false → manager.new.history ≡ manager.old.history }
+{
+    manager.commit(session).is_some()
+}
+
+// Gives each session a turn, and answers whether one had a command.
+fn round(manager: &mut Manager<'_>, sessions: u8) -> bool
+    requires sessions { sessions ≡ length manager.old.setup.scripts }
+    requires few { sessions ≤ 16 }
+    ensures setup { manager.new.setup ≡ manager.old.setup }
+    ensures round { (rounds : ℕ) → IsAtTurn manager.old.setup rounds 1 manager.old.history → IsAtTurn manager.new.setup (rounds + 1) 1 manager.new.history }
+    ensures idle { result ≡ false → manager.new.history ≡ manager.old.history }
+{
+    let mut busy = false;
+    for session in 1..sessions + 1 {
+        busy |= turn(manager, session);
+    }
+    busy
+}
+
+// Commits all commands, in rounds.
+fn commit_all(manager: &mut Manager<'_>, sessions: u8)
+    requires sound { IsSound manager.old.setup }
+    requires sessions { sessions ≡ length manager.old.setup.scripts }
+    requires empty { manager.old.history ≡ [] }
+    ensures setup { manager.new.setup ≡ manager.old.setup }
+    ensures rounds { IsRoundRobin manager.new.setup manager.new.history }
+    ensures apart { IsApart manager.new.setup.world (grants_of manager.new.setup manager.new.history) }
+{
+    for _round in 0..MOST_COMMANDS {
+        if !round(manager, sessions) {
+            return;
+        }
+    }
+}
+
+/// Runs a setup: commits the sessions' commands in turn, one of each session from session 1 on, round
+/// after round, and then brings all tiles to the slot of the budget. Wants memory only before the
+/// first command.
+pub fn serial_all(alloc: Global, setup: &Setup) -> Result<RunEnd, NoMemory>
+    requires { IsSound setup.now }
+    ensures history { IfOk result (λ end. IsRoundRobin setup.now end.history) }
+    ensures tiles { IfOk result (EndsInStep setup.now) }
+{
+    let mut manager = Manager::new(alloc, setup)?;
+    let mut schedule = Schedule::new(alloc, setup.loads.len() as u16)?;
+    let rig = Rig::new(alloc, &setup.world, setup.loads.as_slice())?;
+    commit_all(&mut manager, setup.scripts.len() as u8);
+    manager.copy_since(&mut schedule);
+    let stations = rig.finish(&setup.world, &schedule, setup.budget);
+    Ok(RunEnd {
+        history: Items::from_vec(manager.into_history()),
+        stations: Items::from_vec(stations),
+    })
+}
