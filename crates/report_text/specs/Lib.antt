@@ -1,2 +1,6 @@
 pub mod Rows
 pub mod Alone
+pub mod Commands
+pub mod Report
+pub mod Logs
+pub mod Printing

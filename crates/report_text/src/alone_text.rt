@@ -1,36 +1,21 @@
 //! The text of one application alone.
 
-ghost use Rattle.std.specs.Prelude.{◌≡◌, ◌+◌, ◌*◌, ◌≤◌, ℕ, ◌++◌, List, Option};
+ghost use Rattle.std.specs.Prelude.{◌≡◌, ◌*◌, ◌≤◌};
 ghost use Rattle.std.specs.List.{flat_map};
-ghost use Rattle.arrayvec.specs.ArrayString.{array_string_len};
-ghost use Rattle.soc_io.specs.Writing.{Printed, Writes};
+ghost use Rattle.soc_io.specs.Writing.{Writes};
 ghost use Rattle.report_text.specs.Rows.{row_text, part_text};
-ghost use Rattle.report_text.specs.Alone.{from_to_text, alone_text};
+ghost use Rattle.report_text.specs.Alone.{alone_text};
+ghost use Rattle.report_text.specs.Printing.{PrintsMore};
 
-use crate::lines::{part_line, row_line};
+use crate::lines::{part_line, row_line, span_line};
 use alone_model::{AppTrace, PartTrace};
 use platform_model::Platform;
-use soc_base::{Line, push_number};
 use soc_io::{Printer, Sink, SinkFault};
 use trace_log::TraceRow;
 
-// The end of the first line: from where to where, in cycles.
-#[tactic(auto, unfolding(crate::specs::Alone::from_to_text))]
-fn span_line(first: u64, last: u64) -> Line
-    ensures { result.bytes ≡ from_to_text first last }
-{
-    let mut line = Line::new();
-    line.push_str(" from ");
-    push_number(&mut line, first);
-    line.push_str(" to ");
-    push_number(&mut line, last);
-    line.push_str("\n");
-    line
-}
-
-// Prints a line for each row.
-fn put_rows<S: Sink>(printer: &mut Printer<'_, S>, rows: &[TraceRow])
-    ensures printed { (text : List ℕ) (old : Option (List ℕ)) (before : ℕ) → Printed text old before (S.written printer.old.sink.now) (S.faults printer.old.sink.now) printer.old.failed → Printed (text ++ flat_map row_text rows.now) old before (S.written printer.new.sink.now) (S.faults printer.new.sink.now) printer.new.failed }
+/// Prints a line for each row.
+pub(crate) fn put_rows<S: Sink>(printer: &mut Printer<'_, S>, rows: &[TraceRow])
+    ensures printed { PrintsMore (flat_map row_text rows.now) (S.written printer.old.sink.now) (S.faults printer.old.sink.now) printer.old.failed (S.written printer.new.sink.now) (S.faults printer.new.sink.now) printer.new.failed }
     ensures same { printer.new.sink.ghost_name ≡ printer.old.sink.ghost_name }
 {
     for row in rows {
@@ -40,7 +25,7 @@ fn put_rows<S: Sink>(printer: &mut Printer<'_, S>, rows: &[TraceRow])
 
 // Prints a line for each part.
 fn put_parts<S: Sink>(printer: &mut Printer<'_, S>, parts: &[PartTrace])
-    ensures printed { (text : List ℕ) (old : Option (List ℕ)) (before : ℕ) → Printed text old before (S.written printer.old.sink.now) (S.faults printer.old.sink.now) printer.old.failed → Printed (text ++ flat_map part_text parts.now) old before (S.written printer.new.sink.now) (S.faults printer.new.sink.now) printer.new.failed }
+    ensures printed { PrintsMore (flat_map part_text parts.now) (S.written printer.old.sink.now) (S.faults printer.old.sink.now) printer.old.failed (S.written printer.new.sink.now) (S.faults printer.new.sink.now) printer.new.failed }
     ensures same { printer.new.sink.ghost_name ≡ printer.old.sink.ghost_name }
 {
     for part in parts {
@@ -66,8 +51,7 @@ pub fn write_trace<S: Sink>(
     ensures counted { S.faults sink.old ≤ S.faults sink.new }
     ensures written { Writes (alone_text platform.now.slot_cycles name.now trace.now start end) (S.written sink.old) (S.faults sink.old) (S.written sink.new) (S.faults sink.new) result }
 {
-    let slot_cycles = u64::from(platform.slot_cycles);
-    let span = span_line(start * slot_cycles, end * slot_cycles);
+    let span = span_line(platform.slot_cycles, start, end);
     let mut printer = Printer::new(sink);
     printer.put_named("alone ", name, span.as_str());
     put_rows(&mut printer, trace.rows.as_slice());

@@ -1,16 +1,35 @@
-//! What the program prints of a trace.
+//! What the program prints of a run and of a trace.
 //!
-//! `specs/Rows` says how a row and a part's end are written, and `specs/Alone` the text of one
-//! application alone.
+//! `specs/Rows` says how a row and a part's end are written, `specs/Alone` the text of one application
+//! alone, `specs/Commands` how a command and its reply are written, and `specs/Report` the report of a
+//! run. `specs/Logs` says what the tiles hold of an application's parts, and `specs/Printing` what a
+//! function prints behind a text.
 #![tactic(auto)]
 
 /// The text of one application alone.
 mod alone_text;
+/// The applications of a run.
+mod applications;
+/// Pieces of the lines of commands and their replies.
+mod commands;
+/// The entries of a history.
+mod entries;
+/// The grants that a history gives.
+mod grants;
 /// Lines of a trace.
 mod lines;
+/// The report of a run.
+mod reporter;
 
+/// How much room the rows of an application need.
+mod room;
+
+/// Lines of a report, byte for byte.
+#[cfg(test)]
+mod report_tests;
 /// The text of a trace, byte for byte.
 #[cfg(test)]
 mod tests;
 
 pub use alone_text::write_trace;
+pub use reporter::Reporter;

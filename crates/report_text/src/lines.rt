@@ -1,10 +1,12 @@
 //! Lines of a trace, each at most 512 bytes.
 
-ghost use Rattle.std.specs.Prelude.{◌≡◌, ◌+◌, ◌<◌, ◌≤◌, ◌++◌, length};
+ghost use Rattle.std.specs.Prelude.{◌≡◌, ◌+◌, ◌*◌, ◌≤◌, ◌++◌, length, decimal};
 ghost use Rattle.report_text.specs.Rows.{kind_text, cause_text, end_text, row_text, part_text};
+ghost use Rattle.report_text.specs.Alone.{from_to_text};
 ghost use Rattle.arrayvec.specs.ArrayString.{array_string_len};
 
 use alone_model::PartTrace;
+use itoa::Buffer;
 use soc_base::{Cause, Line, push_hex, push_number};
 use trace_log::{Kind, PartEnd, TraceRow};
 
@@ -32,6 +34,31 @@ fn cause_word(cause: Cause) -> &'static str
         Cause::Access => "access",
         Cause::Break => "break",
     }
+}
+
+/// Appends the cycle at which a slot of so many cycles begins, which may have more than 64 bits.
+pub fn push_cycle(line: &mut Line, slot_cycles: u8, slot: u64)
+    requires { array_string_len line.old + 40 ≤ 512 }
+    ensures text { line.new.bytes ≡ line.old.bytes ++ decimal (slot * slot_cycles) }
+    ensures len { array_string_len line.new ≤ array_string_len line.old + 40 }
+{
+    let mut buffer = Buffer::new();
+    line.push_str(buffer.format(u128::from(slot) * u128::from(slot_cycles)));
+}
+
+/// Makes the end of an application's first line: from which slot to which it was followed, in cycles.
+#[tactic(auto, unfolding(crate::specs::Alone::from_to_text))]
+pub fn span_line(slot_cycles: u8, start: u64, end: u64) -> Line
+    ensures text { result.bytes ≡ from_to_text (start * slot_cycles) (end * slot_cycles) }
+    ensures len { array_string_len result ≤ 100 }
+{
+    let mut line = Line::new();
+    line.push_str(" from ");
+    push_cycle(&mut line, slot_cycles, start);
+    line.push_str(" to ");
+    push_cycle(&mut line, slot_cycles, end);
+    line.push_str("\n");
+    line
 }
 
 /// Makes the line of a row.

@@ -10,7 +10,7 @@ use std::test::Fail;
 use trace_log::{Kind, PartEnd, TraceRow};
 
 // A platform whose slots have 8 cycles.
-fn platform(alloc: Global) -> Result<Platform, Fail> {
+pub fn platform(alloc: Global) -> Result<Platform, Fail> {
     let costs = RawCosts {
         integer: 1,
         mul: 3,

@@ -1,5 +1,5 @@
 -- How the causes of refusals come together.
-use Rattle.std.proofs.Common.{◌≡◌, ℕ, ◌+◌, ◌<◌, ◌≤◌, List, length, Option, Some, None, Ok, refl, sym, subst, arith}
+use Rattle.std.proofs.Common.{ℕ, ◌<◌, ◌≤◌, inr, List, length, Option, Some, None, Ok, Err, refl, sym, subst, arith}
 use Rattle.toml_keys.specs.Document.{Reads}
 use Rattle.platform_model.specs.declared.platform.Platform.{Platform}
 use Rattle.platform_model.specs.declared.rules.PRule.TheVariants.{P1}
@@ -8,14 +8,15 @@ use Rattle.platform_file.specs.Reading as platforms
 use Rattle.bundle_file.specs.Reading as bundles
 use Rattle.soc_io.specs.Reading.{Held, file_limit}
 use Rattle.soc_top.specs.declared.request.AloneWords.{AloneWords}
-use Rattle.soc_top.specs.declared.refusal.Refusal.{Refusal}
-use Rattle.soc_top.specs.declared.refusal.Refusal.TheVariants.{AbsentPlatform, UnreadPlatform, BrokenPlatform, AbsentBundle, UnreadBundle, BrokenBundle, NoMemory}
+use Rattle.soc_top.specs.declared.fault.TopFault.{TopFault}
+use Rattle.soc_top.specs.declared.fault.TopFault.TheVariants.{Platform as BadPlatform, ScriptTooLong, Script, Bundle as BadBundle, Absent, Read, NoMemory}
 use Rattle.soc_top.specs.declared.inputs.Inputs.{Inputs}
-use Rattle.soc_top.specs.declared.alone.Ending.{Ending}
-use Rattle.soc_top.specs.declared.alone.Ending.TheVariants.{Done, Unwritten, Refused}
+use Rattle.soc_top.specs.declared.ending.Ending.{Ending}
+use Rattle.soc_top.specs.declared.ending.Ending.TheVariants.{Done, Unwritten, Refused}
 use Rattle.soc_top.specs.Exchange.{exchanged}
-use Rattle.soc_top.specs.Alone.{Cause, RunEnds, Ends}
-use Rattle.soc_top.specs.Inputs.{LoadsPlatform, BundleCause, LoadsInputs}
+use Rattle.soc_top.specs.Alone.{Cause, Runs, Ends}
+use Rattle.soc_top.specs.Loading.{ReadsPlatform, GetsBundle}
+use Rattle.soc_top.specs.Inputs.{LoadsInputs}
 
 -- a file that is too long is no document
 long_is_none : (bytes : List ℕ) → file_limit < length bytes → Reads bytes None
@@ -30,20 +31,23 @@ unfolding bundles.least_rule
 long_bundle platform bytes long = (None, long_is_none bytes long, refl)
 
 -- a bundle file is refused after the platform file gave a platform
-pub joined : (told : Option Held) (before mid now : ℕ) (request : AloneWords) (platform : Platform) (refusal : Refusal) → before ≤ mid → LoadsPlatform told before mid request (Ok platform) → BundleCause told mid now request platform refusal → Cause told before now request refusal
-joined (Some held) before mid now request platform AbsentPlatform later holds cause = absurd cause
-joined (Some held) before mid now request platform UnreadPlatform later holds cause = absurd cause
-joined (Some held) before mid now request platform (BrokenPlatform rule) later holds cause = absurd cause
-joined (Some held) before mid now request platform AbsentBundle later holds cause = (platform, holds, cause)
-joined (Some held) before mid now request platform UnreadBundle later holds cause = (platform, holds, omega (arith, cause))
-joined (Some held) before mid now request platform (BrokenBundle rule) later holds cause = (platform, holds, cause)
+pub joined : (told : Option Held) (before mid now : ℕ) (request : AloneWords) (platform : Platform) (fault : TopFault) → before ≤ mid → ReadsPlatform told before mid request.platform (Ok platform) → GetsBundle told mid now platform request.bundle (Err fault) → Cause told before now request fault
+joined (Some held) before mid now request platform (BadPlatform rule) later holds cause = absurd cause
+joined (Some held) before mid now request platform (ScriptTooLong name) later holds cause = absurd cause
+joined (Some held) before mid now request platform (Script name fault) later holds cause = absurd cause
+joined (Some held) before mid now request platform (BadBundle name rule) later holds cause =
+    (cause.0, (platform, holds, rw cause.0 cause.1))
+joined (Some held) before mid now request platform (Absent name) later holds cause =
+    (inr (cause.0, (platform, holds)), rw cause.0 cause.1)
+joined (Some held) before mid now request platform (Read name) later holds cause =
+    (inr (cause.0, (platform, holds)), omega (arith, cause.1))
 joined (Some held) before mid now request platform NoMemory later holds cause = tt
-joined None before mid now request platform AbsentPlatform later holds cause = omega (arith, cause)
-joined None before mid now request platform UnreadPlatform later holds cause = omega (arith, cause)
-joined None before mid now request platform (BrokenPlatform rule) later holds cause = tt
-joined None before mid now request platform AbsentBundle later holds cause = omega (arith, cause)
-joined None before mid now request platform UnreadBundle later holds cause = omega (arith, cause)
-joined None before mid now request platform (BrokenBundle rule) later holds cause = tt
+joined None before mid now request platform (BadPlatform rule) later holds cause = tt
+joined None before mid now request platform (ScriptTooLong name) later holds cause = absurd cause
+joined None before mid now request platform (Script name fault) later holds cause = absurd cause
+joined None before mid now request platform (BadBundle name rule) later holds cause = cause
+joined None before mid now request platform (Absent name) later holds cause = (inr cause.0, omega (arith, cause.1))
+joined None before mid now request platform (Read name) later holds cause = (inr cause.0, omega (arith, cause.1))
 joined None before mid now request platform NoMemory later holds cause = tt
 
 -- want of memory needs no cause
@@ -52,13 +56,13 @@ memory_cause (Some held) before now request = tt
 memory_cause None before now request = tt
 
 -- how a request ends, from what its files gave and how its run ended
-pub ended : (told : Option Held) (read read_now : ℕ) (old new : Option (List ℕ)) (before now : ℕ) (request : AloneWords) (inputs : Inputs) (ending : Ending) → LoadsInputs told read read_now request (Ok inputs) → RunEnds old before new now inputs request ending → Ends (exchanged told read read_now old new before now) request ending
+pub ended : (told : Option Held) (read read_now : ℕ) (old new : Option (List ℕ)) (before now : ℕ) (request : AloneWords) (inputs : Inputs) (ending : Ending) → LoadsInputs told read read_now request (Ok inputs) → Runs old before new now inputs request ending → Ends (exchanged told read read_now old new before now) request ending
 ended (Some held) read read_now old new before now request inputs Done gives (text, made, written) =
     (text, (inputs.platform, inputs.bundle, gives.0, gives.1, made), written)
 ended None read read_now old new before now request inputs Done gives (text, made, written) = (text, tt, written)
 ended (Some held) read read_now old new before now request inputs Unwritten gives (text, made, front, rose) =
     (text, (inputs.platform, inputs.bundle, gives.0, gives.1, made), front, rose)
 ended None read read_now old new before now request inputs Unwritten gives (text, made, front, rose) = (text, tt, front, rose)
-ended told read read_now old new before now request inputs (Refused refusal) gives (is, says) =
-    let P : Refusal → Type 0 = λ r. Cause told read read_now request r in
+ended told read read_now old new before now request inputs (Refused fault) gives (is, says) =
+    let P : TopFault → Type 0 = λ f. Cause told read read_now request f in
     (subst P (sym is) (memory_cause told read read_now request), says)

@@ -1,5 +1,5 @@
 -- What named files give excludes what they break.
-use Rattle.std.proofs.Common.{◌≡◌, ℕ, List, Option, Some, subst, sym}
+use Rattle.std.proofs.Common.{◌≡◌, ℕ, List, Option, Some, None, subst}
 use Rattle.platform_model.specs.declared.platform.Platform.{Platform}
 use Rattle.platform_model.specs.declared.rules.PRule.{PRule}
 use Rattle.bundle_model.specs.declared.bundle.Bundle.{Bundle}
@@ -11,7 +11,10 @@ use Rattle.bundle_file.proofs.Exclusive as bundle
 use Rattle.soc_io.specs.Reading.{Held}
 use Rattle.soc_top.specs.Files.{HoldsPlatform, BreaksPlatform, HoldsBundle, BreaksBundle}
 
-same_bytes : (file : Option (List ℕ)) (one other : List ℕ) → file ≡ Some one → file ≡ Some other → one ≡ other
+pub none_or_some : (file : Option (List ℕ)) (bytes : List ℕ) → file ≡ None → file ≡ Some bytes → ⊥
+none_or_some file bytes none some = cc
+
+pub same_bytes : (file : Option (List ℕ)) (one other : List ℕ) → file ≡ Some one → file ≡ Some other → one ≡ other
 same_bytes file one other is also = cc
 
 pub platform_or_rule : (held : Held) (name : List ℕ) (p : Platform) (rule : PRule) → HoldsPlatform held name p → BreaksPlatform held name rule → ⊥

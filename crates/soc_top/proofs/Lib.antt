@@ -1,3 +1,12 @@
+pub mod Scripts
+pub mod Names
+pub mod Placing
+pub mod Catalogs
+pub mod Sound
+pub mod Joined
+pub mod Decided
+pub mod RunEndings
 pub mod Causes
 pub mod Exclusive
+pub mod Statuses
 pub mod Endings

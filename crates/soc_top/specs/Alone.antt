@@ -1,5 +1,5 @@
 -- The command `alone`: in which order it is decided, and what it writes.
-use Rattle.std.specs.Prelude.{◌≡◌, ℕ, Bool, ◌⊎◌, max, List, Option, Some, None, Result, Ok, Err}
+use Rattle.std.specs.Prelude.{◌≡◌, ℕ, Bool, ◌⊎◌, max, List, Option, Some, None}
 use Rattle.soc_base.specs.Time.{slot_up_of}
 use Rattle.soc_io.specs.Counts.{Rose}
 use Rattle.soc_io.specs.Reading.{Held, held_at}
@@ -13,54 +13,59 @@ use Rattle.alone_model.specs.App.{alone_at}
 use Rattle.alone_model.specs.Trace.{IsTraceOf}
 use Rattle.report_text.specs.Alone.{alone_text}
 use Rattle.soc_top.specs.declared.request.AloneWords.{AloneWords}
-use Rattle.soc_top.specs.declared.refusal.Refusal.{Refusal}
-use Rattle.soc_top.specs.declared.refusal.Refusal.TheVariants.{AbsentPlatform, UnreadPlatform, BrokenPlatform, AbsentBundle, UnreadBundle, BrokenBundle, NoMemory}
+use Rattle.soc_top.specs.declared.fault.TopFault.{TopFault}
+use Rattle.soc_top.specs.declared.fault.TopFault.TheVariants.{Platform as BadPlatform, ScriptTooLong, Script, Bundle as BadBundle, Absent, Read, NoMemory}
 use Rattle.soc_top.specs.declared.inputs.Inputs.{Inputs}
-use Rattle.soc_top.specs.declared.alone.Ending.{Ending}
-use Rattle.soc_top.specs.declared.alone.Ending.TheVariants.{Done, Unwritten, Refused}
+use Rattle.soc_top.specs.declared.ending.Ending.{Ending}
+use Rattle.soc_top.specs.declared.ending.Ending.TheVariants.{Done, Unwritten, Refused}
 use Rattle.soc_top.specs.Files.{HoldsPlatform, BreaksPlatform, HoldsBundle, BreaksBundle}
 use Rattle.soc_top.specs.Exchange.{Exchange, Says}
-use Rattle.soc_top.specs.Lines.{status_of, refusal_line}
+use Rattle.soc_top.specs.Faults.{fault_line, fault_status, ending_status}
 
--- The events by which a request is decided, in their order: the platform file is read, and judged; the
--- bundle file is read, and judged; the application runs; its text is written. The first that refuses
--- decides. Where files are told, the refusal has this cause, and no event before it refused.
-abbrev pub ToldCause : Held → ℕ → ℕ → AloneWords → Refusal → Type 0
-ToldCause held before now request AbsentPlatform = held_at held request.platform ≡ None
-ToldCause held before now request UnreadPlatform = Rose before now
-ToldCause held before now request (BrokenPlatform rule) = BreaksPlatform held request.platform rule
-ToldCause held before now request AbsentBundle =
-    (platform : Platform) × HoldsPlatform held request.platform platform × (held_at held request.bundle ≡ None)
-ToldCause held before now request UnreadBundle =
-    (platform : Platform) × HoldsPlatform held request.platform platform × Rose before now
-ToldCause held before now request (BrokenBundle rule) =
-    (platform : Platform) × HoldsPlatform held request.platform platform × BreaksBundle platform held request.bundle rule
+-- The files of a request are read in this order: the platform and the bundle; each is judged when it
+-- was read. The file of this name is read, since no event before refuses the request.
+abbrev pub IsReached : Held → AloneWords → List ℕ → Type 0
+IsReached held request name =
+    (name ≡ request.platform) ⊎ ((name ≡ request.bundle) × ((platform : Platform) × HoldsPlatform held request.platform platform))
+
+-- Where files are told, the request is refused by the first event that refuses it, and this is why.
+abbrev pub ToldCause : Held → ℕ → ℕ → AloneWords → TopFault → Type 0
+ToldCause held before now request (BadPlatform rule) = BreaksPlatform held request.platform rule
+ToldCause held before now request (ScriptTooLong name) = ⊥
+ToldCause held before now request (Script name fault) = ⊥
+ToldCause held before now request (BadBundle name rule) =
+    (name ≡ request.bundle) × ((platform : Platform) × HoldsPlatform held request.platform platform × BreaksBundle platform held name rule)
+ToldCause held before now request (Absent name) = IsReached held request name × (held_at held name ≡ None)
+ToldCause held before now request (Read name) = IsReached held request name × Rose before now
 ToldCause held before now request NoMemory = Unit {0}
 
--- where nothing is told of the files, a file is absent or unread only where their faults rose
-abbrev pub UntoldCause : ℕ → ℕ → Refusal → Type 0
-UntoldCause before now AbsentPlatform = Rose before now
-UntoldCause before now UnreadPlatform = Rose before now
-UntoldCause before now (BrokenPlatform rule) = Unit {0}
-UntoldCause before now AbsentBundle = Rose before now
-UntoldCause before now UnreadBundle = Rose before now
-UntoldCause before now (BrokenBundle rule) = Unit {0}
-UntoldCause before now NoMemory = Unit {0}
+-- one of the two files
+abbrev pub IsNamed : AloneWords → List ℕ → Type 0
+IsNamed request name = (name ≡ request.platform) ⊎ (name ≡ request.bundle)
 
-abbrev pub Cause : Option Held → ℕ → ℕ → AloneWords → Refusal → Type 0
-Cause (Some held) before now request refusal = ToldCause held before now request refusal
-Cause None before now request refusal = UntoldCause before now refusal
+-- where nothing is told of the files, a file is absent or unread only where their faults rose
+abbrev pub UntoldCause : ℕ → ℕ → AloneWords → TopFault → Type 0
+UntoldCause before now request (BadPlatform rule) = Unit {0}
+UntoldCause before now request (ScriptTooLong name) = ⊥
+UntoldCause before now request (Script name fault) = ⊥
+UntoldCause before now request (BadBundle name rule) = name ≡ request.bundle
+UntoldCause before now request (Absent name) = IsNamed request name × Rose before now
+UntoldCause before now request (Read name) = IsNamed request name × Rose before now
+UntoldCause before now request NoMemory = Unit {0}
+
+abbrev pub Cause : Option Held → ℕ → ℕ → AloneWords → TopFault → Type 0
+Cause (Some held) before now request fault = ToldCause held before now request fault
+Cause None before now request fault = UntoldCause before now request fault
 
 -- the request is refused with this cause and this line
-abbrev pub Refuses : Exchange → AloneWords → Refusal → Type 0
-Refuses e request refusal = Cause e.held e.read_faults e.read_faults_now request refusal × Says e (refusal_line request refusal)
+abbrev pub Refuses : Exchange → AloneWords → TopFault → Type 0
+Refuses e request fault = Cause e.held e.read_faults e.read_faults_now request fault × Says e (fault_line fault)
 
 -- what the files alone refuse: these refusals come wherever no read fails and memory suffices
-abbrev pub IsDecided : Held → AloneWords → Refusal → Type 0
-IsDecided held request UnreadPlatform = ⊥
-IsDecided held request UnreadBundle = ⊥
+abbrev pub IsDecided : Held → AloneWords → TopFault → Type 0
+IsDecided held request (Read name) = ⊥
 IsDecided held request NoMemory = ⊥
-IsDecided held request refusal = ToldCause held 0 0 request refusal
+IsDecided held request fault = ToldCause held 0 0 request fault
 
 -- the slots from and to which the application is followed; a start after the budget ends at once
 abbrev pub first_slot : Platform → AloneWords → ℕ
@@ -80,19 +85,14 @@ AloneText held request text =
     (platform : Platform) × (bundle : Bundle) × HoldsPlatform held request.platform platform
     × HoldsBundle platform held request.bundle bundle × IsAloneText platform bundle request text
 
--- how the run of a request ends, once its files gave a platform and a bundle
+-- how the run of a request ends, once its files gave a platform and a bundle: its text is written, or
+-- memory was wanted
 abbrev pub Runs : Option (List ℕ) → ℕ → Option (List ℕ) → ℕ → Inputs → AloneWords → Ending → Type 0
 Runs old before new now inputs request Done = (text : List ℕ) × IsAloneText inputs.platform inputs.bundle request text × Appends old text new
 Runs old before new now inputs request Unwritten =
     (text : List ℕ) × IsAloneText inputs.platform inputs.bundle request text × AppendsFront old text new × Rose before now
-Runs old before new now inputs request (Refused refusal) = (refusal ≡ NoMemory) × (new ≡ old) × (now ≡ before)
-
--- the same, where a refusal's line is written too
-abbrev pub RunEnds : Option (List ℕ) → ℕ → Option (List ℕ) → ℕ → Inputs → AloneWords → Ending → Type 0
-RunEnds old before new now inputs request Done = Runs old before new now inputs request Done
-RunEnds old before new now inputs request Unwritten = Runs old before new now inputs request Unwritten
-RunEnds old before new now inputs request (Refused refusal) =
-    (refusal ≡ NoMemory) × ((failed : Bool) × Printed (refusal_line request refusal) old before new now failed)
+Runs old before new now inputs request (Refused fault) =
+    (fault ≡ NoMemory) × ((failed : Bool) × Printed (fault_line fault) old before new now failed)
 
 -- where files are told, the text is that of the files' bytes
 abbrev pub TextOf : Option Held → AloneWords → List ℕ → Type 0
@@ -104,12 +104,7 @@ abbrev pub Ends : Exchange → AloneWords → Ending → Type 0
 Ends e request Done = (text : List ℕ) × TextOf e.held request text × Appends e.written text e.written_now
 Ends e request Unwritten =
     (text : List ℕ) × TextOf e.held request text × AppendsFront e.written text e.written_now × Rose e.write_faults e.write_faults_now
-Ends e request (Refused refusal) = Refuses e request refusal
-
-abbrev pub ending_status : Ending → ℕ
-ending_status Done = 0
-ending_status Unwritten = 6
-ending_status (Refused refusal) = status_of refusal
+Ends e request (Refused fault) = Refuses e request fault
 
 -- how the request may end with a status
 pub record AloneAnswers (e : Exchange) (request : AloneWords) (status : ℕ) : Type 0 where
@@ -118,17 +113,17 @@ pub record AloneAnswers (e : Exchange) (request : AloneWords) (status : ℕ) : T
   -- 0: the text of the trace was written
   pub done : status ≡ 0 → (text : List ℕ) × TextOf e.held request text × Appends e.written text e.written_now
   -- 2: the platform file breaks this rule; 3: the bundle file does
-  pub platform : status ≡ 2 → (rule : PRule) × Refuses e request (BrokenPlatform rule)
-  pub bundle : status ≡ 3 → (rule : BRule) × Refuses e request (BrokenBundle rule)
+  pub platform : status ≡ 2 → (rule : PRule) × Refuses e request (BadPlatform rule)
+  pub bundle : status ≡ 3 → (name : List ℕ) × ((rule : BRule) × Refuses e request (BadBundle name rule))
   -- 4: a file isn't there; 5: a file could not be read
-  pub absent : status ≡ 4 → Refuses e request AbsentPlatform ⊎ Refuses e request AbsentBundle
-  pub unread : status ≡ 5 → Refuses e request UnreadPlatform ⊎ Refuses e request UnreadBundle
+  pub absent : status ≡ 4 → (name : List ℕ) × Refuses e request (Absent name)
+  pub unread : status ≡ 5 → (name : List ℕ) × Refuses e request (Read name)
   -- 6: a write of the text failed, and a front of it was written
   pub unwritten : status ≡ 6 → Rose e.write_faults e.write_faults_now
   pub front : status ≡ 6 → (text : List ℕ) × TextOf e.held request text × AppendsFront e.written text e.written_now
   -- 7: want of memory
   pub memory : status ≡ 7 → Refuses e request NoMemory
   -- what the files refuse is refused, where no read fails
-  pub decided : (held : Held) (refusal : Refusal) → e.held ≡ Some held → (Rose e.read_faults e.read_faults_now → ⊥) → IsDecided held request refusal → (status ≡ status_of refusal) ⊎ (status ≡ 7)
+  pub decided : (held : Held) (fault : TopFault) → e.held ≡ Some held → (Rose e.read_faults e.read_faults_now → ⊥) → IsDecided held request fault → (status ≡ fault_status fault) ⊎ (status ≡ 7)
   -- and what they allow is done, where no write fails either
   pub complete : (held : Held) (platform : Platform) (bundle : Bundle) → e.held ≡ Some held → (Rose e.read_faults e.read_faults_now → ⊥) → (Rose e.write_faults e.write_faults_now → ⊥) → HoldsPlatform held request.platform platform → HoldsBundle platform held request.bundle bundle → (status ≡ 0) ⊎ (status ≡ 7)

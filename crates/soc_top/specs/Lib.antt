@@ -4,3 +4,8 @@ pub mod Lines
 pub mod Exchange
 pub mod Alone
 pub mod Inputs
+pub mod Faults
+pub mod Setups
+pub mod Loading
+pub mod Naming
+pub mod Run

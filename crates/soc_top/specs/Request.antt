@@ -4,8 +4,9 @@ use Rattle.std.specs.Str.{bytes_eq}
 use Rattle.soc_base.specs.declared.number.NumFault.{NumFault}
 use Rattle.soc_base.specs.Text.{number_read}
 use Rattle.soc_top.specs.declared.request.AloneWords.{AloneWords}
+use Rattle.soc_top.specs.declared.request.RunWords.{RunWords}
 use Rattle.soc_top.specs.declared.request.Request.{Request}
-use Rattle.soc_top.specs.declared.request.Request.TheVariants.{Alone}
+use Rattle.soc_top.specs.declared.request.Request.TheVariants.{Alone, Run}
 
 -- the greatest cycle that words may state
 abbrev pub cycle_limit : ℕ
@@ -23,16 +24,28 @@ alone_of platform bundle (Ok start) (Ok budget) = Some (Alone (record { platform
 alone_of platform bundle (Ok start) (Err fault) = None
 alone_of platform bundle (Err fault) budget = None
 
--- what the words ask for, if they are those of a command: `alone PLATFORM BUNDLE START BUDGET`
+abbrev pub run_of : List ℕ → Result ℕ NumFault → List ℕ → Option Request
+run_of platform (Ok budget) script = Some (Run (record { platform = platform; budget = budget; script = script }))
+run_of platform (Err fault) script = None
+
+-- what the words ask for, if they are those of a command: `alone PLATFORM BUNDLE START BUDGET` or
+-- `run PLATFORM BUDGET SCRIPT`
 unfoldable pub request_of : List (List ℕ) → Option Request
 request_of words =
     if length words == 5 && bytes_eq (word_at words 0) (codes "alone")
     then alone_of (word_at words 1) (word_at words 2) (cycles_of (word_at words 3)) (cycles_of (word_at words 4))
-    else None
+    else (if length words == 4 && bytes_eq (word_at words 0) (codes "run")
+    then run_of (word_at words 1) (cycles_of (word_at words 2)) (word_at words 3)
+    else None)
 
 -- a request that words can ask for
 abbrev pub IsInForm : AloneWords → Type 0
 IsInForm request = (request.start ≤ cycle_limit) × (request.budget ≤ cycle_limit)
 
+-- likewise a request to run
+abbrev pub IsRunInForm : RunWords → Type 0
+IsRunInForm request = request.budget ≤ cycle_limit
+
 abbrev pub AreInForm : Request → Type 0
 AreInForm (Alone request) = IsInForm request
+AreInForm (Run request) = IsRunInForm request

@@ -4,10 +4,11 @@ ghost use Rattle.std.specs.Prelude.{◌≡◌, ◌*◌, ◌≤◌};
 ghost use Rattle.bundle_model.specs.WellFormed.{IsWellFormed};
 ghost use Rattle.soc_top.specs.Request.{IsInForm};
 ghost use Rattle.soc_top.specs.Exchange.{exchanged};
-ghost use Rattle.soc_top.specs.Alone.{first_slot, last_slot, Ends, Runs, RunEnds, ending_status, AloneAnswers};
+ghost use Rattle.soc_top.specs.Alone.{first_slot, last_slot, Ends, Runs, AloneAnswers};
 
+use crate::ending::{Ending, code, refuse};
+use crate::fault::TopFault;
 use crate::inputs::{Inputs, load};
-use crate::refusal::{Refusal, refuse, status};
 use crate::request::AloneWords;
 use alone_model::alone;
 use platform_model::Platform;
@@ -15,17 +16,6 @@ use report_text::write_trace;
 use soc_base::slot_up;
 use soc_io::{Files, Sink};
 use std::alloc::Global;
-
-/// How a request ends.
-#[derive(Clone, Copy, Debug, PartialEq, Eq)]
-pub enum Ending {
-    /// Its text was written.
-    Done,
-    /// A write of its text failed.
-    Unwritten,
-    /// It was refused.
-    Refused(Refusal),
-}
 
 // The slots from and to which an application is followed.
 fn span(platform: &Platform, request: &AloneWords) -> (u64, u64)
@@ -40,7 +30,7 @@ fn span(platform: &Platform, request: &AloneWords) -> (u64, u64)
     (start, end)
 }
 
-// Follows the application, and writes the text of its trace.
+// Follows the application, and writes the text of its trace, or the line of a fault at want of memory.
 fn run<S: Sink>(alloc: Global, request: &AloneWords, inputs: &Inputs, sink: &mut S) -> Ending
     requires in_form { IsInForm request.now }
     requires well_formed { IsWellFormed inputs.now.platform inputs.now.bundle }
@@ -49,7 +39,7 @@ fn run<S: Sink>(alloc: Global, request: &AloneWords, inputs: &Inputs, sink: &mut
 {
     let (start, end) = span(&inputs.platform, request);
     let Ok(trace) = alone(alloc, &inputs.platform, &inputs.bundle, start, end) else {
-        return Ending::Refused(Refusal::NoMemory);
+        return refuse(TopFault::NoMemory, sink);
     };
     match write_trace(
         &inputs.platform,
@@ -64,25 +54,6 @@ fn run<S: Sink>(alloc: Global, request: &AloneWords, inputs: &Inputs, sink: &mut
     }
 }
 
-// Follows the application, and writes the text of its trace or the line of a refusal.
-fn run_or_refuse<S: Sink>(
-    alloc: Global,
-    request: &AloneWords,
-    inputs: &Inputs,
-    sink: &mut S,
-) -> Ending
-    requires in_form { IsInForm request.now }
-    requires well_formed { IsWellFormed inputs.now.platform inputs.now.bundle }
-    ensures counted { S.faults sink.old ≤ S.faults sink.new }
-    ensures ends { RunEnds (S.written sink.old) (S.faults sink.old) (S.written sink.new) (S.faults sink.new) inputs.now request.now result }
-{
-    let ending = run(alloc, request, inputs, sink);
-    if let Ending::Refused(refusal) = ending {
-        refuse(request, refusal, sink);
-    }
-    ending
-}
-
 // How a request ends: its files are read and judged, its application runs, its text is written.
 #[tactic(auto, using(crate::proofs::Causes::ended))]
 fn end<F: Files, S: Sink>(
@@ -95,21 +66,8 @@ fn end<F: Files, S: Sink>(
     ensures { Ends (exchanged (F.holds files.old) (F.faults files.old) (F.faults files.new) (S.written sink.old) (S.written sink.new) (S.faults sink.old) (S.faults sink.new)) request.now result }
 {
     match load(alloc, request, files) {
-        Ok(inputs) => run_or_refuse(alloc, request, &inputs, sink),
-        Err(refusal) => {
-            refuse(request, refusal, sink);
-            Ending::Refused(refusal)
-        }
-    }
-}
-
-fn code(ending: Ending) -> u8
-    ensures { result ≡ ending_status ending }
-{
-    match ending {
-        Ending::Done => 0,
-        Ending::Unwritten => 6,
-        Ending::Refused(refusal) => status(refusal),
+        Ok(inputs) => run(alloc, request, &inputs, sink),
+        Err(fault) => refuse(fault, sink),
     }
 }
 
@@ -128,5 +86,5 @@ pub fn alone_call<F: Files, S: Sink>(
     requires { IsInForm request.now }
     ensures { AloneAnswers (exchanged (F.holds files.old) (F.faults files.old) (F.faults files.new) (S.written sink.old) (S.written sink.new) (S.faults sink.old) (S.faults sink.new)) request.now result }
 {
-    code(end(alloc, request, files, sink))
+    code(&end(alloc, request, files, sink))
 }

@@ -1,7 +1,7 @@
 //! What a command line asks for.
 
-ghost use Rattle.std.specs.Prelude.{◌≡◌, ◌≢◌, ◌↔◌, IfOk};
-ghost use Rattle.soc_top.specs.Request.{request_of, AreInForm};
+ghost use Rattle.std.specs.Prelude.{◌≡◌, ◌≢◌, ◌≤◌, ◌↔◌, None, IfOk, length};
+ghost use Rattle.soc_top.specs.Request.{word_at, cycles_of, alone_of, run_of, request_of, AreInForm};
 
 use soc_base::{Text, Words, read_number};
 use std::alloc::Global;
@@ -21,11 +21,24 @@ pub struct AloneWords {
     pub budget: u64,
 }
 
+/// The words of the command `run`: a platform file, a cycle from 0 to 1,000,000,000,000, and a script.
+#[derive(Debug, Drop)]
+pub struct RunWords {
+    /// The name of the platform file.
+    pub platform: Text,
+    /// The cycle at which the run ends.
+    pub budget: u64,
+    /// The name of the script.
+    pub script: Text,
+}
+
 /// What a command line asks for.
 #[derive(Debug, Drop)]
 pub enum Request {
     /// The trace of a bundle alone on the empty platform.
     Alone(AloneWords),
+    /// A run of a script's loads on the platform, and its report.
+    Run(RunWords),
 }
 
 /// Why words ask for nothing.
@@ -42,18 +55,31 @@ pub enum WordsFault {
 /// The greatest cycle that words may state.
 const LAST_CYCLE: u64 = 1_000_000_000_000;
 
-/// Reads what words ask for: `alone PLATFORM BUNDLE START BUDGET`, the cycles in decimal digits.
-/// Refuses with `Usage` exactly where the words aren't of this form or a cycle is above
-/// 1,000,000,000,000.
+/// Reads what words ask for: `alone PLATFORM BUNDLE START BUDGET` or `run PLATFORM BUDGET SCRIPT`, the
+/// cycles in decimal digits. Refuses with `Usage` exactly where the words aren't of one of these forms
+/// or a cycle is above 1,000,000,000,000.
 #[tactic(auto, unfolding(crate::specs::Request::request_of))]
 pub fn read_words(alloc: Global, words: &Words) -> Result<Request, WordsFault>
     ensures usage { (result ≡ Err WordsFault.Usage) ↔ (request_of words.now ≡ None) }
     ensures request { IfOk result (λ request. request_of words.now ≡ Some request) }
     ensures in_form { IfOk result AreInForm }
 {
-    if words.len() != 5 || words.word(0) != "alone" {
-        return Err(WordsFault::Usage);
+    if words.len() == 5 && words.word(0) == "alone" {
+        read_alone(alloc, words)
+    } else if words.len() == 4 && words.word(0) == "run" {
+        read_run(alloc, words)
+    } else {
+        Err(WordsFault::Usage)
     }
+}
+
+// Reads the words of an `alone`.
+fn read_alone(alloc: Global, words: &Words) -> Result<Request, WordsFault>
+    requires { 5 ≤ length words.now }
+    ensures usage { (result ≡ Err WordsFault.Usage) ↔ (alone_of (word_at words.now 1) (word_at words.now 2) (cycles_of (word_at words.now 3)) (cycles_of (word_at words.now 4)) ≡ None) }
+    ensures request { IfOk result (λ request. alone_of (word_at words.now 1) (word_at words.now 2) (cycles_of (word_at words.now 3)) (cycles_of (word_at words.now 4)) ≡ Some request) }
+    ensures in_form { IfOk result AreInForm }
+{
     let (Ok(start), Ok(budget)) = (
         read_number(words.word(3).as_bytes(), LAST_CYCLE),
         read_number(words.word(4).as_bytes(), LAST_CYCLE),
@@ -61,6 +87,19 @@ pub fn read_words(alloc: Global, words: &Words) -> Result<Request, WordsFault>
         return Err(WordsFault::Usage);
     };
     alone_words(alloc, words.word(1), words.word(2), start, budget)
+}
+
+// Reads the words of a `run`.
+fn read_run(alloc: Global, words: &Words) -> Result<Request, WordsFault>
+    requires { 4 ≤ length words.now }
+    ensures usage { (result ≡ Err WordsFault.Usage) ↔ (run_of (word_at words.now 1) (cycles_of (word_at words.now 2)) (word_at words.now 3) ≡ None) }
+    ensures request { IfOk result (λ request. run_of (word_at words.now 1) (cycles_of (word_at words.now 2)) (word_at words.now 3) ≡ Some request) }
+    ensures in_form { IfOk result AreInForm }
+{
+    let Ok(budget) = read_number(words.word(2).as_bytes(), LAST_CYCLE) else {
+        return Err(WordsFault::Usage);
+    };
+    run_words(alloc, words.word(1), budget, words.word(3))
 }
 
 // The words of an `alone`, as a request of its own.
@@ -85,5 +124,28 @@ fn alone_words(
         bundle,
         start,
         budget,
+    }))
+}
+
+// The words of a `run`, as a request of its own.
+fn run_words(
+    alloc: Global,
+    platform: &str,
+    budget: u64,
+    script: &str,
+) -> Result<Request, WordsFault>
+    ensures refused { result ≢ Err WordsFault.Usage }
+    ensures request { IfOk result (λ request. request ≡ Request.Run (record { platform = platform.now; budget = budget; script = script.now })) }
+{
+    let (Ok(platform), Ok(script)) = (
+        Text::from_str(alloc, platform),
+        Text::from_str(alloc, script),
+    ) else {
+        return Err(WordsFault::NoMemory);
+    };
+    Ok(Request::Run(RunWords {
+        platform,
+        budget,
+        script,
     }))
 }

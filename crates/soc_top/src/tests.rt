@@ -8,11 +8,12 @@ use std::alloc::{AllocError, Global};
 use std::process::Abort;
 use std::test::Fail;
 
-const PLATFORM: &str =
+/// A platform file that breaks no rule.
+pub const PLATFORM: &str =
     "tiles = 1\nmem_bytes = 4096\nslot_cycles = 8\ntable_slots = 8\nkernel_cycles = 72\npartition_cycles = 56\npartition_slots = 2\nports = 2\nqueue = 8\n";
 
-// A bundle of one part, with these lines of its own.
-fn bundle(alloc: Global, part: &str) -> Result<String, AllocError> {
+/// A bundle of one part, with these lines of its own.
+pub fn bundle(alloc: Global, part: &str) -> Result<String, AllocError> {
     format!(in alloc; "version = 1\n[[part]]\ntile = 0\nentry = 0\n{part}")
 }
 
@@ -25,9 +26,9 @@ fn words_of(alloc: Global, line: &str) -> Result<Words, Fail> {
     Ok(words)
 }
 
-// Runs a line over `one.toml`, `a.toml` and others, with reads and writes that fail, and compares the
-// status and what was written.
-fn expect_run(
+/// Runs a line over `one.toml`, `a.toml` and others, with reads and writes that fail, and compares the
+/// status and what was written.
+pub fn expect_run(
     rt: &impl Abort,
     files: &mut MemFiles,
     sink: &mut MemSink,
@@ -42,7 +43,8 @@ fn expect_run(
     Ok(())
 }
 
-const A: &str =
+/// The part of `a.toml`.
+pub const A: &str =
     "slots = [0]\nbase = 0\nlen = 64\ntrace = 16\nkinds = [\"word\"]\nimage = \"93027000370300802320530073000000\"\n";
 
 #[test]
@@ -248,8 +250,8 @@ fn programs_of_one_part(rt: HostRuntime) -> Result<(), Fail> {
     Ok(())
 }
 
-// So many bytes.
-fn filler(alloc: Global, count: usize) -> Result<Vec<u8>, AllocError> {
+/// So many bytes.
+pub fn filler(alloc: Global, count: usize) -> Result<Vec<u8>, AllocError> {
     Vec::from_elem(alloc, b'#', count)
 }
 

@@ -6,11 +6,15 @@ ghost use Rattle.soc_top.specs.Request.{request_of};
 ghost use Rattle.soc_top.specs.Exchange.{exchanged, Says};
 ghost use Rattle.soc_top.specs.Lines.{usage_line};
 ghost use Rattle.soc_top.specs.Alone.{AloneAnswers};
+ghost use Rattle.soc_top.specs.Run.{RunAnswers};
 ghost use Rattle.soc_top.specs.declared.request.AloneWords.{AloneWords};
-ghost use Rattle.soc_top.specs.declared.request.Request.TheVariants.{Alone};
+ghost use Rattle.soc_top.specs.declared.request.RunWords.{RunWords};
+ghost use Rattle.soc_top.specs.declared.request.Request.TheVariants.{Alone, Run};
 
 use crate::alone::alone_call;
+use crate::fault::{TopFault, write_fault};
 use crate::request::{Request, WordsFault, read_words};
+use crate::run::serial_call;
 use soc_base::Words;
 use soc_io::{Files, Printer, Sink};
 use std::alloc::Global;
@@ -26,20 +30,22 @@ fn say<S: Sink>(sink: &mut S, line: &str)
 
 /// Does what the words of a command line ask for, over files and a sink, and answers the status that
 /// the program ends with: 0 where it is done, 1 where the words aren't those of a command, and else as
-/// the command's own call says (`alone_call`). At 1 the line `compsoc: usage` was written.
+/// the command's own call says (`alone_call`, `serial_call`). At 1 the line `compsoc: usage` was written.
 pub fn compsoc<F: Files, S: Sink>(alloc: Global, words: &Words, files: &mut F, sink: &mut S) -> u8
     ensures usage { (result ≡ 1) ↔ (request_of words.now ≡ None) }
     ensures usage_line { result ≡ 1 → Says (exchanged (F.holds files.old) (F.faults files.old) (F.faults files.new) (S.written sink.old) (S.written sink.new) (S.faults sink.old) (S.faults sink.new)) usage_line }
     ensures alone { (request : AloneWords) → request_of words.now ≡ Some (Alone request) → AloneAnswers (exchanged (F.holds files.old) (F.faults files.old) (F.faults files.new) (S.written sink.old) (S.written sink.new) (S.faults sink.old) (S.faults sink.new)) request result }
+    ensures run { (request : RunWords) → request_of words.now ≡ Some (Run request) → RunAnswers (exchanged (F.holds files.old) (F.faults files.old) (F.faults files.new) (S.written sink.old) (S.written sink.new) (S.faults sink.old) (S.faults sink.new)) request result }
 {
     match read_words(alloc, words) {
         Ok(Request::Alone(request)) => alone_call(alloc, &request, files, sink),
+        Ok(Request::Run(request)) => serial_call(alloc, &request, files, sink),
         Err(WordsFault::Usage) => {
             say(sink, "compsoc: usage\n");
             1
         }
         Err(WordsFault::NoMemory) => {
-            say(sink, "compsoc: memory\n");
+            write_fault(&TopFault::NoMemory, sink);
             7
         }
     }

@@ -1,6 +1,10 @@
 use Rattle.soc_top.proofs.Endings.{short_of_memory}
+use Rattle.soc_top.proofs.RunEndings.{run_short_of_memory}
 use Rattle.soc_top.proofs.top.compsoc.Goals as goal
 
 -- without memory for the request, status 7 is what the request's own call may answer
 pub returns-in-Err-NoMemory-clause-alone : goal.returns-in-Err-NoMemory-clause-alone
-returns-in-Err-NoMemory-clause-alone g c = λ request _. short_of_memory _ request c.say-in-Err-NoMemory.ensures
+returns-in-Err-NoMemory-clause-alone g c = λ request _. short_of_memory _ request c.write_fault.ensures.line
+
+pub returns-in-Err-NoMemory-clause-run : goal.returns-in-Err-NoMemory-clause-run
+returns-in-Err-NoMemory-clause-run g c = λ request _. run_short_of_memory _ request c.write_fault.ensures.line

@@ -1,0 +1,5 @@
+pub mod RowCounts
+pub mod Prints
+pub mod AppTexts
+pub mod Alone
+pub mod TileNumbers

@@ -1,0 +1,124 @@
+//! The report of a run.
+
+ghost use Rattle.std.specs.Prelude.{◌≡◌, ◌≤◌, ◌++◌, ℕ, List, All, IfOk, false, vec_capacity};
+ghost use Rattle.soc_io.specs.Writing.{Writes};
+ghost use Rattle.vep_manager.specs.Setup.{IsSound};
+ghost use Rattle.vep_manager.specs.History.{grants_of};
+ghost use Rattle.vep_manager.specs.Legal.{IsLegal};
+ghost use Rattle.serial_run.specs.Run.{EndsInStep};
+ghost use Rattle.report_text.specs.Alone.{end_line};
+ghost use Rattle.report_text.specs.Report.{IsReport, form_line, budget_line, most_rows};
+ghost use Rattle.report_text.specs.Logs.{HoldsAlone};
+ghost use Rattle.report_text.specs.Printing.{PrintsMore};
+
+use crate::applications::put_apps;
+use crate::entries::put_history;
+use crate::lines::push_cycle;
+use crate::room::most_room;
+use serial_run::RunEnd;
+use soc_base::{Line, NoMemory};
+use soc_io::{Printer, Sink, SinkFault};
+use std::alloc::Global;
+use std::marker::Model;
+use trace_log::TraceRow;
+use vep_manager::Setup;
+
+/// Writes reports, with room for the rows of one application, which contracts see as the number of
+/// rows that there is room for.
+#[derive(Drop)]
+pub struct Reporter {
+    rows: Vec<TraceRow>,
+}
+
+impl Model for Reporter {
+    ghost use Rattle.std.specs.Prelude.{ℕ, vec_capacity};
+
+    ghost Value = { ℕ };
+
+    ghost view = { λ r. vec_capacity r.rows };
+}
+
+// The line of the budget.
+fn budget_line(setup: &Setup) -> Line
+    ensures { result.bytes ≡ budget_line setup.now }
+{
+    let mut line = Line::new();
+    line.push_str("budget ");
+    push_cycle(&mut line, setup.world.platform.slot_cycles, setup.budget);
+    line.push_str("\n");
+    line
+}
+
+// Prints the first two lines of a report.
+fn put_head<S: Sink>(printer: &mut Printer<'_, S>, setup: &Setup)
+    ensures printed { PrintsMore (form_line ++ budget_line setup.now) (S.written printer.old.sink.now) (S.faults printer.old.sink.now) printer.old.failed (S.written printer.new.sink.now) (S.faults printer.new.sink.now) printer.new.failed }
+    ensures same { printer.new.sink.ghost_name ≡ printer.old.sink.ghost_name }
+{
+    printer.put(b"compsoc report 1\n");
+    printer.put(budget_line(setup).as_str().as_bytes());
+}
+
+// Prints the last line of a report.
+fn put_end<S: Sink>(printer: &mut Printer<'_, S>)
+    ensures printed { PrintsMore end_line (S.written printer.old.sink.now) (S.faults printer.old.sink.now) printer.old.failed (S.written printer.new.sink.now) (S.faults printer.new.sink.now) printer.new.failed }
+    ensures same { printer.new.sink.ghost_name ≡ printer.old.sink.ghost_name }
+{
+    printer.put(b"end\n");
+}
+
+// Prints a report, with room for the rows of each application.
+fn put_all<S: Sink>(
+    printer: &mut Printer<'_, S>,
+    setup: &Setup,
+    end: &RunEnd,
+    rows: &mut Vec<TraceRow>,
+)
+    requires alone { All (HoldsAlone setup.now end.now.stations) (grants_of setup.now end.now.history) }
+    requires room { most_rows setup.now.world ≤ vec_capacity rows.old }
+    ensures printed { (text : List ℕ) × IsReport setup.now end.now.history text × PrintsMore text (S.written printer.old.sink.now) (S.faults printer.old.sink.now) printer.old.failed (S.written printer.new.sink.now) (S.faults printer.new.sink.now) printer.new.failed }
+    ensures room { vec_capacity rows.new ≡ vec_capacity rows.old }
+    ensures same { printer.new.sink.ghost_name ≡ printer.old.sink.ghost_name }
+{
+    let history = end.history.as_slice();
+    put_head(printer, setup);
+    put_history(printer, setup, history);
+    put_apps(printer, setup, history, end.stations.as_slice(), rows);
+    put_end(printer);
+}
+
+impl Reporter {
+    /// Makes a reporter with room for the longest trace that an application of the setup can have.
+    pub fn new(alloc: Global, setup: &Setup) -> Result<Reporter, NoMemory>
+        requires { IsSound setup.now }
+        ensures { IfOk result (λ reporter. most_rows setup.now.world ≤ reporter) }
+    {
+        let rows = Vec::with_capacity(alloc, most_room(&setup.world))?;
+        Ok(Reporter { rows })
+    }
+
+    /// Writes the report of a run: the history, and each granted application's trace. The reporter was
+    /// made for this setup, the history is legal, and the stations hold the tiles as they are at the end
+    /// of the run. `state` is false for now. Fails only where the sink's count of faults rose, and then
+    /// a front of the text was written. Takes no memory.
+    pub fn write<S: Sink>(
+        &mut self,
+        setup: &Setup,
+        end: &RunEnd,
+        state: bool,
+        sink: &mut S,
+    ) -> Result<(), SinkFault>
+        requires sound { IsSound setup.now }
+        requires room { most_rows setup.now.world ≤ self.old }
+        requires legal { IsLegal setup.now end.now.history }
+        requires in_step { EndsInStep setup.now end.now }
+        requires no_state { state ≡ false }
+        ensures counted { S.faults sink.old ≤ S.faults sink.new }
+        ensures written { (text : List ℕ) × IsReport setup.now end.now.history text × Writes text (S.written sink.old) (S.faults sink.old) (S.written sink.new) (S.faults sink.new) result }
+        ensures room { self.new ≡ self.old }
+    {
+        let _ = state;
+        let mut printer = Printer::new(sink);
+        put_all(&mut printer, setup, end, &mut self.rows);
+        printer.finish()
+    }
+}
