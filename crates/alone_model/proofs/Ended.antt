@@ -13,7 +13,7 @@ use Rattle.trace_log.specs.Log.{has_ended}
 use Rattle.part_model.specs.declared.record.Place.{Place}
 use Rattle.part_model.specs.Part.{PartState, part_cycle, unless_ended}
 use Rattle.platform_model.specs.Platform.{frame_of}
-use Rattle.bundle_model.specs.Sets.{slots_of}
+use Rattle.soc_base.specs.Slots.{slots_of}
 use Rattle.alone_model.specs.App.{AppPart, AppState, place_of, part_step, app_cycle}
 
 unless_still : (end : PartEnd) (p next : PartState) → has_ended end ≡ true → unless_ended end p next ≡ p

@@ -27,7 +27,7 @@ use Rattle.trace_log.specs.Kinds.{has_kind}
 use Rattle.trace_log.specs.Log.{Log, logged}
 use Rattle.bundle_model.specs.declared.bundle.Part.{Part}
 use Rattle.bundle_model.specs.declared.bundle.Bundle.{Bundle}
-use Rattle.bundle_model.specs.Sets.{slots_of}
+use Rattle.soc_base.specs.Slots.{slots_of}
 use Rattle.part_model.specs.declared.record.Place.{Place}
 use Rattle.part_model.specs.Answers.{BusState, device_base, traced, load_answer, store_answer, memory_store, register_store}
 use Rattle.part_model.specs.Running.{CycleEnd, running_cycle, effect_at, executed_or_illegal}

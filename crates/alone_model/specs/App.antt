@@ -7,7 +7,7 @@ use Rattle.platform_model.specs.Platform.{frame_of}
 use Rattle.soc_base.specs.declared.region.Region.{Region}
 use Rattle.bundle_model.specs.declared.bundle.Part.{Part}
 use Rattle.bundle_model.specs.declared.bundle.Bundle.{Bundle}
-use Rattle.bundle_model.specs.Sets.{slots_of}
+use Rattle.soc_base.specs.Slots.{slots_of}
 use Rattle.rv_core.specs.Registers.{fresh_registers}
 use Rattle.tile_memory.specs.Bytes.{filled_bytes}
 use Rattle.trace_log.specs.Log.{new_log}

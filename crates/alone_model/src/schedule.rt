@@ -3,7 +3,7 @@
 ghost use Rattle.std.specs.Prelude.{◌≡◌};
 ghost use Rattle.soc_base.specs.Time.{runs};
 ghost use Rattle.platform_model.specs.Platform.{frame_of};
-ghost use Rattle.bundle_model.specs.Sets.{slots_of};
+ghost use Rattle.soc_base.specs.Slots.{slots_of};
 
 use bundle_model::Part;
 use platform_model::Platform;

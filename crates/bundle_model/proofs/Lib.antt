@@ -1,4 +1,3 @@
-pub mod Slots
 pub mod SlotSets
 pub mod Unbroken
 pub mod Listing

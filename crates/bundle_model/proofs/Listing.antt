@@ -3,7 +3,7 @@ use Rattle.std.proofs.Common.{◌≡◌, ℕ, zero, suc, ◌+◌, Bool, true, fa
 use Rattle.std.proofs.lemmas.List.{map-append}
 use Rattle.std.specs.Int.{bit_at}
 use Rattle.std.specs.List.{range_with_len}
-use Rattle.bundle_model.specs.Sets.{slots_of, slots_at}
+use Rattle.soc_base.specs.Slots.{slots_of, slots_at}
 use Rattle.bundle_model.specs.declared.resource.Resource.{Resource}
 use Rattle.bundle_model.specs.declared.resource.Resource.TheVariants.{Partition}
 

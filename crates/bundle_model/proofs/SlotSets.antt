@@ -8,7 +8,8 @@ use Rattle.std.proofs.lemmas.Bool.Decides.{nat_tests}
 use Rattle.std.proofs.lemmas.Nat.Bits.{bit_at_or, bit_at-pow_same, bit_at-pow_other, bit_at-lt, bit_at-zero}
 use Rattle.std.proofs.Math.Bool.{or_assoc}
 use Rattle.soc_base.specs.Time.{is_among}
-use Rattle.bundle_model.specs.Sets.{slots_of, slot_set}
+use Rattle.soc_base.specs.Slots.{slots_of}
+use Rattle.bundle_model.specs.Sets.{slot_set}
 
 -- the bit of a slot is set in a set to which one slot is joined where it was, or where it is the slot
 bit_joined : (set slot k : ℕ) → (bit_at (bit_or set (2 ^ slot)) k == 1) ≡ ((bit_at set k == 1) || (slot == k))

@@ -13,7 +13,8 @@ use Rattle.platform_model.specs.Twins.{has_twin}
 use Rattle.platform_model.specs.declared.platform.Platform.{Platform}
 use Rattle.platform_model.proofs.Passing.{passed_over, neither}
 use Rattle.platform_model.proofs.Ranges.{no_remainder}
-use Rattle.bundle_model.specs.Sets.{slots_of, slot_set, names, word_kind, send_kind, recv_kind, step_kind}
+use Rattle.soc_base.specs.Slots.{slots_of}
+use Rattle.bundle_model.specs.Sets.{slot_set, names, word_kind, send_kind, recv_kind, step_kind}
 use Rattle.bundle_model.specs.Rules.{is_empty, has_tile, shares_tile, is_slot, ascends, has_slots, has_region, image_fits, has_image, has_entry, is_kind, has_trace, has_ports, breaks, first_rule}
 use Rattle.bundle_model.specs.Bundle.{part_of, pair_of, bundle_of}
 use Rattle.bundle_model.specs.WellFormed.{IsWellFormedPart, IsWellFormed}

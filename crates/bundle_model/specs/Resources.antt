@@ -2,7 +2,7 @@
 use Rattle.std.specs.Prelude.{ℕ, ◌+◌, ◌%◌, min, max, Bool, false, ◌&&◌, ◌||◌, ◌==◌, nat_lt, List, [], ◌∷◌, ◌++◌, map, length}
 use Rattle.std.specs.List.{flat_map}
 use Rattle.platform_model.specs.declared.platform.Platform.{Platform}
-use Rattle.bundle_model.specs.Sets.{slots_of}
+use Rattle.soc_base.specs.Slots.{slots_of}
 use Rattle.bundle_model.specs.declared.bundle.Channel.{Channel}
 use Rattle.bundle_model.specs.declared.bundle.Pair.{Pair}
 use Rattle.bundle_model.specs.declared.bundle.Part.{Part}

@@ -1,16 +1,7 @@
--- Bit sets, seen as lists. Bit k of a set of slots is slot k.
-use Rattle.std.specs.Prelude.{ℕ, ℤ, ◌+◌, ◌^◌, ◌==◌, bit_or, Bool, List, [], ◌∷◌, fold, filter, nat_abs, codes, if◌then◌else◌}
-use Rattle.std.specs.Int.{bit_at}
+-- Bit sets of slots and of kinds of rows. Bit k of a set of slots is slot k.
+use Rattle.std.specs.Prelude.{ℕ, ℤ, ◌+◌, ◌^◌, bit_or, Bool, List, fold, nat_abs, codes, if◌then◌else◌}
 use Rattle.std.specs.Str.{bytes_eq}
-use Rattle.std.specs.List.{list_any, range_with_len}
-
--- the slots of a set, ascending: those below 16 whose bit is set
-unfoldable pub slots_of : ℕ → List ℕ
-slots_of set = filter (λ slot. bit_at set slot == 1) (range_with_len 0 16)
-
--- the one slot, where its bit is set
-abbrev pub slots_at : ℕ → ℕ → List ℕ
-slots_at set slot = if bit_at set slot == 1 then slot ∷ [] else []
+use Rattle.std.specs.List.{list_any}
 
 -- the set of these slots
 abbrev pub slot_set : List ℤ → ℕ

@@ -2,7 +2,7 @@
 use Rattle.std.specs.Prelude.{◌≡◌, ◌≢◌, ◌+◌, ◌*◌, ◌%◌, ◌<◌, ◌≤◌, nat_eq, map, length, [], All}
 use Rattle.std.specs.List.{IsDistinct}
 use Rattle.platform_model.specs.declared.platform.Platform.{Platform}
-use Rattle.bundle_model.specs.Sets.{slots_of}
+use Rattle.soc_base.specs.Slots.{slots_of}
 use Rattle.bundle_model.specs.declared.bundle.Part.{Part}
 use Rattle.bundle_model.specs.declared.bundle.Bundle.{Bundle}
 

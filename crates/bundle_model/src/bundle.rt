@@ -3,9 +3,9 @@
 ghost use Rattle.std.specs.Prelude.{◌≡◌, ◌<◌, ◌==◌};
 ghost use Rattle.std.specs.Int.{bit_at};
 ghost use Rattle.soc_base.specs.Time.{is_among};
-ghost use Rattle.bundle_model.specs.Sets.{slots_of};
+ghost use Rattle.soc_base.specs.Slots.{slots_of};
 
-use soc_base::{Items, Region};
+use soc_base::{Items, Region, has_slot};
 
 /// One end of a channel pair.
 #[derive(Clone, Copy, Debug)]
@@ -67,7 +67,7 @@ impl Part {
         ensures among { result ≡ is_among slot (slots_of self.now.slots) }
         ensures bit { result ≡ (bit_at self.now.slots slot == 1) }
     {
-        (self.slots >> slot) % 2 == 1
+        has_slot(self.slots, slot)
     }
 }
 

@@ -3,7 +3,7 @@
 ghost use Rattle.std.specs.Prelude.{◌≡◌, ◌<◌, ◌+◌, ◌++◌, max, min, map, nat_lt, IfOk, OnOk};
 ghost use Rattle.bundle_model.specs.WellFormed.{IsWellFormed};
 ghost use Rattle.bundle_model.specs.Resources.{part_resources, resources_of, meets_of, shares_byte};
-ghost use Rattle.bundle_model.specs.Sets.{slots_of, slots_at};
+ghost use Rattle.soc_base.specs.Slots.{slots_of, slots_at};
 ghost use Rattle.bundle_model.specs.declared.resource.Resource.TheVariants.{Partition, Port};
 
 use crate::bundle::{Bundle, Part};

@@ -8,7 +8,7 @@ use Rattle.platform_model.specs.Platform.{frame_of}
 use Rattle.bundle_model.specs.declared.bundle.Part.{Part}
 use Rattle.bundle_model.specs.declared.world.World.{World}
 use Rattle.bundle_model.specs.declared.world.Grant.{Grant}
-use Rattle.bundle_model.specs.Sets.{slots_of}
+use Rattle.soc_base.specs.Slots.{slots_of}
 use Rattle.tile_memory.specs.Bytes.{IsInside, region_bytes, with_region}
 use Rattle.tile_memory.proofs.Regions.{length-with_region, region-with_region}
 use Rattle.part_model.specs.Part.{PartState, part_cycle}

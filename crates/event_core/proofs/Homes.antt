@@ -11,7 +11,7 @@ use Rattle.bundle_model.specs.declared.bundle.Part.{Part}
 use Rattle.bundle_model.specs.declared.world.World.{World}
 use Rattle.bundle_model.specs.declared.world.LoadName.{LoadName}
 use Rattle.bundle_model.specs.declared.world.Grant.{Grant}
-use Rattle.bundle_model.specs.Sets.{slots_of}
+use Rattle.soc_base.specs.Slots.{slots_of}
 use Rattle.bundle_model.specs.World.{part_on}
 use Rattle.bundle_model.specs.WellFormed.{IsWellFormedPart}
 use Rattle.tile_memory.specs.Bytes.{region_bytes, filled_bytes}

@@ -12,7 +12,7 @@ use Rattle.bundle_model.specs.declared.resource.Resource.{Resource}
 use Rattle.bundle_model.specs.declared.resource.Resource.TheVariants.{Partition, Span, Port}
 use Rattle.bundle_model.specs.declared.world.World.{World}
 use Rattle.bundle_model.specs.declared.world.Grant.{Grant}
-use Rattle.bundle_model.specs.Sets.{slots_of}
+use Rattle.soc_base.specs.Slots.{slots_of}
 use Rattle.bundle_model.specs.WellFormed.{IsWellFormedPart}
 use Rattle.bundle_model.specs.Resources.{part_resources, resources_of, is_same, shares_byte, meets_of}
 use Rattle.bundle_model.specs.Grants.{bundle_at, grant_resources, do_meet}

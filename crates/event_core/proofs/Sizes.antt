@@ -17,7 +17,7 @@ use Rattle.rv_core.specs.Registers.{Registers}
 use Rattle.bundle_model.specs.declared.bundle.Part.{Part}
 use Rattle.bundle_model.specs.declared.world.World.{World}
 use Rattle.bundle_model.specs.declared.world.Grant.{Grant}
-use Rattle.bundle_model.specs.Sets.{slots_of}
+use Rattle.soc_base.specs.Slots.{slots_of}
 use Rattle.tile_memory.specs.declared.memory.MemFault.{MemFault}
 use Rattle.tile_memory.specs.Bytes.{refusal_of}
 use Rattle.tile_memory.proofs.Regions.{length-stored_bytes, length-filled_bytes}

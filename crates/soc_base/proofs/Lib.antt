@@ -1,2 +1,4 @@
 pub mod StepLemmas
 pub mod Digits
+pub mod Slots
+pub mod Laws

@@ -1,4 +1,6 @@
 pub mod Time
+pub mod Frame
+pub mod Slots
 pub mod Steps
 pub mod Text
 pub mod Port

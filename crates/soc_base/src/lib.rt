@@ -10,10 +10,14 @@
 mod cause;
 /// One word and its credits on a link.
 mod flit;
+/// The frame by which partitions share a core, and when a part runs.
+mod frame;
 /// A `Vec` and a `String` that contracts see as lists.
 mod items;
 /// The name of one load command.
 mod label;
+/// The limits of platforms, bundles, files and runs.
+mod limits;
 /// Lines of printed text.
 mod line;
 /// Want of memory.
@@ -29,8 +33,15 @@ mod words;
 
 pub use cause::Cause;
 pub use flit::Flit;
+pub use frame::{Frame, has_slot, instance_of, runs};
 pub use items::{Items, Text};
 pub use label::Label;
+pub use limits::{
+    LAST_CYCLE, LAST_STATED_CYCLE, LEAST_KERNEL_CYCLES, LEAST_MEMORY, MOST_COMMANDS, MOST_COST,
+    MOST_FILE_BYTES, MOST_KERNEL_CYCLES, MOST_LINKS, MOST_MEMORY, MOST_PARTITION_CYCLES,
+    MOST_PARTITION_SLOTS, MOST_PATH, MOST_PORTS, MOST_QUEUE, MOST_RESOURCES, MOST_ROWS,
+    MOST_SCRIPTS, MOST_SLOT_CYCLES, MOST_TABLE_SLOTS, MOST_TILES, ROUTER_PORTS,
+};
 pub use line::{Line, push_hex, push_number};
 pub use memory::NoMemory;
 pub use number::{NumFault, read_number};

@@ -9,7 +9,7 @@ use Rattle.platform_model.specs.Platform.{frame_of}
 use Rattle.bundle_model.specs.declared.bundle.Part.{Part}
 use Rattle.bundle_model.specs.declared.world.World.{World}
 use Rattle.bundle_model.specs.declared.world.Grant.{Grant}
-use Rattle.bundle_model.specs.Sets.{slots_of}
+use Rattle.soc_base.specs.Slots.{slots_of}
 use Rattle.bundle_model.specs.World.{same_label, part_on}
 use Rattle.rv_core.specs.Registers.{fresh_registers}
 use Rattle.tile_memory.specs.Bytes.{with_region, filled_bytes}

@@ -6,7 +6,7 @@ ghost use Rattle.trace_log.specs.Log.{has_ended};
 ghost use Rattle.soc_base.specs.Steps.{after_steps};
 ghost use Rattle.soc_base.specs.Time.{runs};
 ghost use Rattle.platform_model.specs.Platform.{frame_of};
-ghost use Rattle.bundle_model.specs.Sets.{slots_of};
+ghost use Rattle.soc_base.specs.Slots.{slots_of};
 ghost use Rattle.bundle_model.specs.World.{IsSoundCatalog};
 ghost use Rattle.tile_memory.specs.Bytes.{IsInside, with_region};
 ghost use Rattle.part_model.specs.Part.{part_cycle};

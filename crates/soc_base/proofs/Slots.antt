@@ -5,7 +5,7 @@ use Rattle.std.proofs.lemmas.Bool.Decides.{nat_tests}
 use Rattle.std.specs.List.{range_with_len}
 use Rattle.std.specs.Int.{bit_at}
 use Rattle.soc_base.specs.Time.{is_among}
-use Rattle.bundle_model.specs.Sets.{slots_of}
+use Rattle.soc_base.specs.Slots.{slots_of}
 
 -- a number below the first is not there where it isn't among the others
 none_of : (k from : ℕ) (pass : Bool) (rest : List ℕ) → k < from → is_among k rest ≡ false → is_among k (cond pass (from ∷ rest) rest) ≡ false
