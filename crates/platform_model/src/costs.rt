@@ -1,9 +1,7 @@
 //! What instructions cost.
 
-ghost use Rattle.std.specs.Prelude.{◌≡◌, ◌<◌, ◌≤◌};
+ghost use Rattle.std.specs.Prelude.{◌<◌, ◌≤◌};
 ghost use Rattle.soc_base.specs.declared.limits.TheConstants.{MOST_COST};
-ghost use Rattle.platform_model.specs.Costs.{raw_costs};
-ghost use Rattle.platform_model.specs.declared.raw.TheConstants.{DEFAULT_COSTS};
 
 /// What instructions cost on a platform, in cycles from 1 to `MOST_COST`.
 #[derive(Clone, Copy, Debug)]
