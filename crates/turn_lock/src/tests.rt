@@ -74,15 +74,13 @@ fn write_in_order<R: Abort + Wait>(
     ensures second { second.new.share ≡ second.old.share }
     ensures third { third.new.share ≡ third.old.share }
 {
-    let mut written = 0;
-    for number in order {
-        let before = match number {
+    for written in 0..order.len() {
+        let before = match order[written] {
             1 => write(rt, turns, first, 1),
             2 => write(rt, turns, second, 2),
             _ => write(rt, turns, third, 3),
         };
         assert_eq!(rt; before, written);
-        written += 1;
     }
 }
 
