@@ -9,7 +9,8 @@ use Rattle.vep_manager.specs.Replies.{next_entry}
 
 -- a session's next command was committed in a turn: the pass had seen `old` before and has seen `new` after it,
 -- and the answer is the entry with its place in the history
-pub record Commits (setup : Setup) (session : ℕ) (old new : List Entry) (answer : Option (ℕ × Entry)) : Type 0 where
+pub record Commits (setup : Setup) (session : ℕ) (old new : List Entry) (answer : Option (ℕ × Entry))
+    : Type 0 where
   -- the entries that the turn found, among which are all that the pass had seen
   pub found : List Entry
   pub begins : IsPrefix old found

@@ -58,6 +58,7 @@ impl<'s> SharedManager<'s> {
     /// Waits for a turn, commits a session's next command, and answers its place in the history, counted
     /// from 0, and its entry, which is the last one that the pass has seen then. None exactly where the
     /// session's script is used up in the entries that the turn found. Takes no memory.
+    #[tactic(auto, using(crate::proofs::Prefixes::prefix_more))]
     pub fn commit(
         &self,
         rt: &impl Wait,
@@ -67,6 +68,7 @@ impl<'s> SharedManager<'s> {
         requires rests { RestsAt self.now pass.old }
         requires session { IsSession self.now.base session }
         ensures commits { Commits self.now.base session pass.old.seen pass.new.seen result }
+        ensures begins { IsPrefix pass.old.seen pass.new.seen }
         ensures legal { IsLegal self.now.base pass.new.seen }
         ensures mine { pass.new.mine ≡ pass.old.mine + length (option_to_list result) }
         ensures entered { pass.new.entered ≡ pass.old.entered + 1 }
