@@ -59,12 +59,7 @@ impl<'s> SharedManager<'s> {
     /// from 0, and its entry, which is the last one that the pass has seen then. None exactly where the
     /// session's script is used up in the entries that the turn found. Takes no memory.
     #[tactic(auto, using(crate::proofs::Prefixes::prefix_more))]
-    pub fn commit(
-        &self,
-        rt: &impl Wait,
-        pass: &mut Pass<'s>,
-        session: u8,
-    ) -> Option<(u64, Entry)>
+    pub fn commit(&self, rt: &impl Wait, pass: &mut Pass<'s>, session: u8) -> Option<(u64, Entry)>
         requires rests { RestsAt self.now pass.old }
         requires session { IsSession self.now.base session }
         ensures commits { Commits self.now.base session pass.old.seen pass.new.seen result }

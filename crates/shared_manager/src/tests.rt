@@ -77,10 +77,8 @@ fn bundle(alloc: Global, platform: &Platform) -> Result<Bundle, Fail>
 // The platform and one bundle file.
 fn world(alloc: Global) -> Result<World, Fail>
     ensures sound { IfOk result IsSoundCatalog }
-    ensures one {
-        IfOk result (λ world. (judged : Result Bundle BRule)
-            × (world.catalog ≡ record { name = codes "app"; judged = judged } ∷ []))
-    }
+    ensures one { IfOk result (λ world. (judged : Result Bundle BRule)
+        × (world.catalog ≡ record { name = codes "app"; judged = judged } ∷ [])) }
 {
     let platform = platform(alloc)?;
     let named = Named {
@@ -103,16 +101,16 @@ fn script(commands: Vec<Command>) -> Script
 
 // One session loads, and one promises slot 2 and then has no more to say.
 fn scripts(alloc: Global) -> Result<Items<Script>, Fail>
-    ensures {
-        IfOk result (λ scripts.
-            scripts ≡ (record { commands = Command.Load (codes "app") 8 ∷ [] })
-            ∷ (record { commands = Command.Until 16 ∷ Command.Until 24 ∷ [] }) ∷ [])
-    }
+    ensures { IfOk result (λ scripts.
+        scripts ≡ (record { commands = Command.Load (codes "app") 8 ∷ [] })
+        ∷ (record { commands = Command.Until 16 ∷ Command.Until 24 ∷ [] }) ∷ []) }
 {
     let name = Text::from_str(alloc, "app")?;
     let first = script(vec![in alloc; Command::Load { name, cycle: 8 }]?);
-    let second =
-        script(vec![in alloc; Command::Until { cycle: 16 }, Command::Until { cycle: 24 }]?);
+    let second = script(vec![in alloc;
+        Command::Until { cycle: 16 },
+        Command::Until { cycle: 24 },
+    ]?);
     Ok(Items::from_vec(vec![in alloc; first, second]?))
 }
 
