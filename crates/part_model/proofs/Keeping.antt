@@ -1,5 +1,7 @@
 -- What the stores, the rows and the end of a part keep, its cycles keep.
-use Rattle.std.proofs.Common.{◌≡◌, ℕ, ◌%◌, Bool, true, false, cond, nat_lt, ◌==◌, List, length, Option, Some, None, Result, Ok, Err, refl}
+use Rattle.std.proofs.Common.{◌≡◌, ℕ, ◌%◌, Bool, true, false, cond, nat_lt, ◌==◌, List, length, Option, Some, None, Result, Ok, Err, zero, suc, ◌+◌, ◌≤◌, ◌∙◌, refl, arith}
+use Rattle.std.proofs.lemmas.Bool.Decides.{nat_tests}
+use Rattle.soc_base.specs.Steps.{after_steps}
 use Rattle.soc_base.specs.declared.region.Width.{Width}
 use Rattle.soc_base.specs.declared.region.Width.TheVariants.{Byte, Half, Word}
 use Rattle.soc_base.specs.declared.cause.Cause.{Cause}
@@ -14,6 +16,7 @@ use Rattle.rv_core.specs.Effect.{Request, request_of, ask}
 use Rattle.rv_core.specs.Effect.Request.{Nothing, LoadFrom, StoreTo}
 use Rattle.tile_memory.specs.declared.memory.MemFault.{MemFault}
 use Rattle.tile_memory.specs.Bytes.{refusal_of, stored_bytes}
+use Rattle.tile_memory.proofs.Regions.{length-stored_bytes}
 use Rattle.trace_log.specs.declared.row.TraceRow.{TraceRow}
 use Rattle.trace_log.specs.declared.row.Kind.{Kind}
 use Rattle.trace_log.specs.declared.row.Kind.TheVariants.{Word as TraceWord, Step}
@@ -106,3 +109,24 @@ unfolding after_end part_cycle
 cycle_keeps K kept costs place cycle p holds =
     let ran = running_cycle part_bus costs p.regs p.left (bus_of place cycle p) in
     unless_keeps K p.log.end p _ holds (after_keeps K kept place cycle p.regs.pc ran.outcome ran.bus.bytes ran.bus.log (running_keeps K kept costs p.regs p.left (bus_of place cycle p) holds))
+
+-- a store that isn't refused has its bytes in the region
+not_refused : (len addr : ℕ) (width : Width) → refusal_of len addr width ≡ None → addr + width_bytes width ≤ len
+not_refused len addr width none = grind (arith, nat_tests)
+
+size_kept : (n : ℕ) → IsKept (λ bytes log. length bytes ≡ n)
+size_kept n = record {
+  store = λ bytes log addr width value done size. length-stored_bytes bytes addr width value (not_refused (length bytes) addr width done) ∙ size;
+  row = λ bytes log row size. size;
+  end = λ bytes log end size. size;
+}
+
+-- a part keeps the number of its region's bytes
+pub cycle_size : (costs : Costs) (place : Place) (cycle : ℕ) (p : PartState) → length (part_cycle costs place cycle p).bytes ≡ length p.bytes
+cycle_size costs place cycle p = cycle_keeps (λ bytes log. length bytes ≡ length p.bytes) (size_kept (length p.bytes)) costs place cycle p refl
+
+pub stretch_size : (costs : Costs) (place : Place) (from n : ℕ) (p : PartState) → length (after_steps (part_cycle costs place) from n p).bytes ≡ length p.bytes
+unfolding after_steps
+stretch_size costs place from zero p = refl
+stretch_size costs place from (suc n) p =
+    cycle_size costs place (from + n) (after_steps (part_cycle costs place) from n p) ∙ stretch_size costs place from n p
