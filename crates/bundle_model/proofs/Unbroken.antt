@@ -22,7 +22,7 @@ use Rattle.bundle_model.specs.declared.raw.RawPart.{RawPart}
 use Rattle.bundle_model.specs.declared.raw.RawBundle.{RawBundle}
 use Rattle.bundle_model.specs.declared.rules.BRule.{BRule}
 use Rattle.bundle_model.specs.declared.rules.BRule.TheVariants.{B4, B5, B6, B7, B8, B9, B10, B11, B12, B13, B14}
-use Rattle.bundle_model.proofs.SlotSets.{Rises, rises_lower, slots_of-rises, below_limit}
+use Rattle.bundle_model.proofs.SlotSets.{Rises, rises_lower, slots_of-rises, below_limit, slot_set-below}
 
 -- no rule is broken
 pub record Unbroken (platform : Platform) (raw : RawBundle) : Type 0 where
@@ -174,12 +174,15 @@ part_kept platform part kept =
     let traced = and_parts (is_within part.trace (pos 0) (pos 4096) && list_all is_kind part.kinds) (not (has_twin bytes_eq part.kinds)) kept.trace in
     let rows = and_parts (is_within part.trace (pos 0) (pos 4096)) (list_all is_kind part.kinds) traced.0 in
     let entry = entry_in_region part.entry part.len kept.entry in
+    let listed = and_parts (not (is_empty part.slots) && list_all (is_slot platform) part.slots) (ascends part.slots) kept.slots in
+    let each = and_parts (not (is_empty part.slots)) (list_all (is_slot platform) part.slots) listed.0 in
     let some : slots_of (slot_set part.slots) ≢ [] = rw slots.0 slots.1 in
     let exist : All (λ slot. slot < platform.partition_slots) (slots_of (slot_set part.slots)) = rw slots.0 slots.2 in
     record {
       on_tile = below_limit part.tile platform.tiles kept.tile;
       some_slot = some;
       slots_exist = exist;
+      slots_fit = slot_set-below platform.partition_slots part.slots each.1;
       base_aligned = region.base_aligned;
       len_aligned = region.len_aligned;
       least_len = region.least_len;
