@@ -23,10 +23,12 @@ fn frame(slots: u8) -> Frame
     }
 }
 
-// The set of one slot.
-fn set_of(slot: u8) -> u16
-    requires { slot < 16 }
-    ensures { result ≡ 2 ^ slot }
+// The set of one of so many slots.
+fn set_of(slot: u8, slots: u8) -> u16
+    requires slot { slot < slots }
+    requires most { slots ≤ 16 }
+    ensures some { 0 < result }
+    ensures below { result < 2 ^ slots }
 {
     1 << slot
 }
@@ -35,7 +37,7 @@ fn set_of(slot: u8) -> u16
 fn prepare(rt: &impl Abort, kernel: &mut Kernel, slot: u8, entry: u32) {
     let frame = kernel.frame();
     assert!(rt; slot < frame.slots);
-    let slots = set_of(slot);
+    let slots = set_of(slot, frame.slots);
     assert!(rt; kernel.is_free(slots));
     let part = kernel.prepare(slots, entry);
     assert_eq!(rt; part, slot);
