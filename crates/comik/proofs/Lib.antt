@@ -1,0 +1,9 @@
+pub mod Blending
+pub mod Switches
+pub mod Rows
+pub mod Times
+pub mod Places
+pub mod Least
+pub mod Owners
+pub mod Parts
+pub mod Turns
