@@ -4,8 +4,8 @@ use Rattle.std.proofs.lemmas.Bool.{cases_eq, cases_lt, ne_eqb, lt-ltb, le-ltb}
 use Rattle.std.proofs.lemmas.List.{take_all, drop_all, take_more, take_more_set, drop_more, append_assoc, take_at, take-append-drop, append-nil, length-take-le}
 use Rattle.rv_core.specs.Registers.{Registers}
 use Rattle.comik.specs.declared.context.Context.{Context}
-use Rattle.comik.specs.Context.{copied}
-use Rattle.comik.specs.Switching.{IsContext, blend}
+use Rattle.comik.specs.Context.{copied, IsContext}
+use Rattle.comik.specs.Switching.{blend}
 
 -- lists of which the first n items are the same
 pub fronts_same : (xs ys : List ℕ) (n : ℕ) → length xs ≡ length ys → n < length xs → take n xs ++ drop n ys ≡ ys → take n ys ≡ take n xs

@@ -6,9 +6,10 @@ use Rattle.std.proofs.lemmas.Bool.Decides.{nat_tests}
 use Rattle.std.proofs.lemmas.List.{get_or-set_same, get_or-set_other, length-set, take_at}
 use Rattle.std.proofs.lemmas.List.Elements.{All-set, All-map, All-weaker}
 use Rattle.std.proofs.lemmas.List.Elements.{All-same}
-use Rattle.soc_base.proofs.StepLemmas.{steps_more}
+use Rattle.soc_base.proofs.Laws.{steps_more}
 use Rattle.soc_base.specs.Steps.{after_steps}
-use Rattle.comik.specs.Kernel.{IsBelow, AreBelow, claimed_slot, claimed, without}
+use Rattle.comik.specs.Kernel.{IsBelow, AreBelow, without}
+use Rattle.comik.specs.Parts.{claimed_slot, claimed}
 
 pub below_without : (bound part : ℕ) (place : Option ℕ) → IsBelow bound place → IsBelow bound (without part place)
 below_without bound part None below = tt

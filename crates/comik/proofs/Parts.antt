@@ -6,9 +6,10 @@ use Rattle.std.proofs.lemmas.List.{get_or-set_same, get_or-set_other, length-set
 use Rattle.std.proofs.lemmas.List.Elements.{All-set}
 use Rattle.std.proofs.lemmas.Option.{none-some, IfSome_then}
 use Rattle.comik.specs.declared.context.Context.{Context}
-use Rattle.comik.specs.Context.{fresh_context}
-use Rattle.comik.specs.Kernel.{KernelState, IsInstalled, AreFree, least_slot, prepared, without, cleared, owner_at, has}
-use Rattle.comik.specs.Switching.{IsContext, held_context, context_in, context_of, IsSaved, InStep, IsWhole}
+use Rattle.comik.specs.Context.{fresh_context, IsContext}
+use Rattle.comik.specs.Kernel.{KernelState, IsInstalled, AreFree, least_slot, without, owner_at, has, IsKernel}
+use Rattle.comik.specs.Parts.{prepared, cleared}
+use Rattle.comik.specs.Switching.{held_context, context_in, context_of, IsSaved, InStep}
 use Rattle.comik.proofs.Least.{least_is_in, least_below}
 use Rattle.comik.proofs.Owners.{below_claimed, below_freed, below_without, length_claimed, claimed_at, freed_at}
 use Rattle.comik.proofs.Switches.{held_is, of_held, of_other}
@@ -44,11 +45,11 @@ held_apart k slots None some fits free installed = refl
 held_apart k slots (Some part) some fits free installed = ne_eqb part (least_slot slots) (installed_apart k slots part some fits free installed)
 
 -- a part that comes: its own words, and those of the others
-pub prepared_own : (k : KernelState) (slots entry offset : ℕ) → 0 < slots → slots < 65536 → slots < 2 ^ k.times.slots → AreFree k slots → IsWhole k → context_of (prepared k slots entry) offset (least_slot slots) ≡ fresh_context entry
-prepared_own k slots entry offset some fits below free whole =
+pub prepared_own : (k : KernelState) (slots entry offset : ℕ) → 0 < slots → slots < 65536 → slots < 2 ^ k.times.slots → AreFree k slots → IsKernel k → context_of (prepared k slots entry) offset (least_slot slots) ≡ fresh_context entry
+prepared_own k slots entry offset some fits below free kernel =
     let low = least_below slots k.times.slots some fits below in
-    let inside : least_slot slots < length k.frames = omega (arith, whole.frames) in
-    not_held k.held k.file (slice_set k.frames (least_slot slots) (fresh_context entry)) offset (least_slot slots) (held_apart k slots k.held some fits free whole.installed_held)
+    let inside : least_slot slots < length k.frames = omega (arith, kernel.frames) in
+    not_held k.held k.file (slice_set k.frames (least_slot slots) (fresh_context entry)) offset (least_slot slots) (held_apart k slots k.held some fits free kernel.installed_held)
     ∙ get_or-set_same k.frames (least_slot slots) (fresh_context entry) (fresh_context 0) inside
 
 pub prepared_others : (k : KernelState) (slots entry offset part : ℕ) → part ≢ least_slot slots → context_of (prepared k slots entry) offset part ≡ context_of k offset part
@@ -58,9 +59,9 @@ step_same : (held : Option ℕ) (file : Context) (frames : List Context) (offset
 step_same None file frames offset other new apart step = tt
 step_same (Some part) file frames offset other new apart step = subst (IsSaved offset file) (sym (get_or-set_other frames other part new (fresh_context 0) apart)) step
 
-pub prepared_in_step : (k : KernelState) (slots entry offset : ℕ) → 0 < slots → slots < 65536 → AreFree k slots → IsWhole k → InStep k offset → InStep (prepared k slots entry) offset
-prepared_in_step k slots entry offset some fits free whole step =
-    let apart = IfSome_then k.held whole.installed_held (λ part installed. installed_apart k slots part some fits free installed) in
+pub prepared_in_step : (k : KernelState) (slots entry offset : ℕ) → 0 < slots → slots < 65536 → AreFree k slots → IsKernel k → InStep k offset → InStep (prepared k slots entry) offset
+prepared_in_step k slots entry offset some fits free kernel step =
+    let apart = IfSome_then k.held kernel.installed_held (λ part installed. installed_apart k slots part some fits free installed) in
     step_same k.held k.file k.frames offset (least_slot slots) (fresh_context entry) apart step
 
 -- a part that leaves
@@ -94,75 +95,3 @@ cleared_step (Some p) file frames part offset step =
 pub cleared_in_step : (k : KernelState) (part offset : ℕ) → InStep k offset → InStep (cleared k part) offset
 cleared_in_step k part offset step = cleared_step k.held k.file k.frames part offset step
 
--- what a kernel's type keeps
-fresh_is_context : (pc : ℕ) → IsContext (fresh_context pc)
-fresh_is_context pc = record { count = refl; zero = refl }
-
-pub still_installed : (k : KernelState) (slots entry part : ℕ) → AreFree k slots → IsInstalled k part → IsInstalled (prepared k slots entry) part
-still_installed k slots entry part free installed = elim (cases_Bool (nat_lt part (length k.owners) && bit_at slots part == 1)) [
-  | inl taken ↦
-      let bit : bit_at slots part ≡ 1 = eqb-true (bit_at slots part) 1 (and_parts (nat_lt part (length k.owners)) (bit_at slots part == 1) taken).1 in
-      absurd (none-some part (sym (free part bit) ∙ installed))
-  | inr left ↦ claimed_at slots (least_slot slots) k.owners part ∙ ap (λ b. cond b (Some (least_slot slots)) (owner_at k part)) left ∙ installed
-]
-
-pub now_installed : (k : KernelState) (slots entry : ℕ) → 0 < slots → slots < 65536 → slots < 2 ^ k.times.slots → IsWhole k → IsInstalled (prepared k slots entry) (least_slot slots)
-now_installed k slots entry some fits below whole =
-    let part = least_slot slots in
-    let low = least_below slots k.times.slots some fits below in
-    let inside : nat_lt part (length k.owners) ≡ true = lt-ltb part (length k.owners) (omega (arith, whole.owners)) in
-    let bit : (bit_at slots part == 1) ≡ true = eq-eqb (bit_at slots part) 1 (least_is_in slots some fits) in
-    claimed_at slots part k.owners part ∙ ap (λ b. cond b (Some part) (owner_at k part)) (and_from (nat_lt part (length k.owners)) (bit_at slots part == 1) inside bit)
-
-pub prepared_whole : (k : KernelState) (slots entry : ℕ) → 0 < slots → slots < 65536 → slots < 2 ^ k.times.slots → AreFree k slots → IsWhole k → IsWhole (prepared k slots entry)
-prepared_whole k slots entry some fits below free whole =
-    let part = least_slot slots in
-    let after = prepared k slots entry in
-    let low = least_below slots k.times.slots some fits below in
-    let stays : (q : ℕ) → IsInstalled k q → IsInstalled after q = λ q installed. still_installed k slots entry q free installed in
-    let P : Option ℕ → Type 0 = λ o. IfSome o (IsInstalled after) in
-    let either : (slot : ℕ) (b : Bool) → P (cond b (Some part) (owner_at k slot)) = λ slot b. elim b as (λ b. P (cond b (Some part) (owner_at k slot))) [
-      | true ↦ now_installed k slots entry some fits below whole
-      | false ↦ IfSome_then (owner_at k slot) (whole.installed_owners slot) stays
-    ] in
-    record {
-      frames = length-set k.frames part (fresh_context entry) ∙ whole.frames;
-      owners = length_claimed slots part k.owners ∙ whole.owners;
-      held = whole.held;
-      next = whole.next;
-      owned = below_claimed k.times.slots slots part k.owners low whole.owned;
-      file = whole.file;
-      contexts = All-set IsContext k.frames part (fresh_context entry) (fresh_is_context entry) whole.contexts;
-      installed_owners = λ slot. subst P (sym (claimed_at slots part k.owners slot)) (either slot (nat_lt slot (length k.owners) && bit_at slots slot == 1));
-      installed_held = IfSome_then k.held whole.installed_held stays;
-      installed_next = IfSome_then k.next whole.installed_next stays;
-    }
-
-without_kept : (k : KernelState) (part : ℕ) (place : Option ℕ) → IfSome place (IsInstalled k) → IfSome (without part place) (IsInstalled (cleared k part))
-without_kept k part None installed = tt
-without_kept k part (Some q) installed =
-    let P : Bool → Type 0 = λ b. IfSome (cond b None (Some q)) (IsInstalled (cleared k part)) in
-    elim (cases_eq q part) [
-      | inl same ↦ subst P (sym (eq-eqb q part same)) tt
-      | inr differs ↦
-          let there : (q == part) ≡ false = ne_eqb q part differs in
-          let kept : without part (Some q) ≡ Some q = ap (λ b. cond b None (Some q)) there in
-          subst P (sym there) (freed_at part k.owners q ∙ ap (without part) installed ∙ kept)
-    ]
-
-pub cleared_whole : (k : KernelState) (part : ℕ) → IsWhole k → IsWhole (cleared k part)
-cleared_whole k part whole =
-    let P : Option ℕ → Type 0 = λ o. IfSome o (IsInstalled (cleared k part)) in
-    let either : (b : Bool) → IsContext (cond b (fresh_context 0) k.file) = λ b. elim b as (λ b. IsContext (cond b (fresh_context 0) k.file)) [ true ↦ fresh_is_context 0 | false ↦ whole.file ] in
-    record {
-      frames = length-set k.frames part (fresh_context 0) ∙ whole.frames;
-      owners = length-map k.owners (without part) ∙ whole.owners;
-      held = below_without k.times.slots part k.held whole.held;
-      next = below_without k.times.slots part k.next whole.next;
-      owned = below_freed k.times.slots part k.owners whole.owned;
-      file = either (has part k.held);
-      contexts = All-set IsContext k.frames part (fresh_context 0) (fresh_is_context 0) whole.contexts;
-      installed_owners = λ slot. subst P (sym (freed_at part k.owners slot)) (without_kept k part (owner_at k slot) (whole.installed_owners slot));
-      installed_held = without_kept k part k.held whole.installed_held;
-      installed_next = without_kept k part k.next whole.installed_next;
-    }

@@ -1,7 +1,8 @@
 -- What a row does to the owners and to the parts that are held and next.
 use Rattle.std.proofs.Common.{◌≡◌, ℕ, ◌-◌, ◌==◌, Bool, true, false, cond, nat_lt, Option, Some, None, refl, sym, ap, ◌∙◌, inl, inr, arith}
 use Rattle.std.proofs.lemmas.Bool.{cases_lt, ne_eqb, lt-ltb, le-ltb}
-use Rattle.comik.specs.Kernel.{KernelState, owner_at, latched, swapped, saved_for, saved, restored_for, restored, kernel_row}
+use Rattle.comik.specs.Kernel.{KernelState, owner_at}
+use Rattle.comik.specs.Table.{latched, swapped, saved_for, saved, restored_for, restored, kernel_row}
 
 -- what stays when words are copied
 pub record SameParts (k after : KernelState) : Type 0 where

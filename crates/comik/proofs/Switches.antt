@@ -8,12 +8,13 @@ use Rattle.soc_base.specs.Time.{FrameTimes, offset_at, served_at}
 use Rattle.soc_base.specs.Frame.{IsFrame}
 use Rattle.comik.proofs.Times.{next_offset}
 use Rattle.comik.specs.declared.context.Context.{Context}
-use Rattle.comik.specs.Context.{fresh_context, copied}
-use Rattle.comik.specs.Kernel.{KernelState, IsBelow, owner_at, latched, swapped, saved, restored, kernel_row, kernel_cycle}
-use Rattle.comik.specs.Switching.{IsContext, blend, held_context, context_in, IsSaved, InStep, IsWhole, HasWords, Keeps}
+use Rattle.comik.specs.Context.{fresh_context, copied, IsContext}
+use Rattle.comik.specs.Kernel.{KernelState, IsBelow, owner_at}
+use Rattle.comik.specs.Table.{latched, swapped, saved, restored, kernel_row, kernel_cycle}
+use Rattle.comik.specs.Switching.{blend, held_context, context_in, IsSaved, InStep, IsWhole, HasWords, Keeps}
 use Rattle.comik.proofs.Blending.{blend_all, saved_more, restored_more, copied_register, copied_left}
 
-abbrev state : FrameTimes → Context → List Context → List (Option ℕ) → Option ℕ → Option ℕ → KernelState
+abbrev pub state : FrameTimes → Context → List Context → List (Option ℕ) → Option ℕ → Option ℕ → KernelState
 state times file frames owners held next = record { times = times; file = file; frames = frames; owners = owners; held = held; next = next }
 
 pub held_is : (offset : ℕ) (file frame : Context) → (offset ≤ 33) ⊎ (66 ≤ offset) → held_context offset file frame ≡ file
@@ -50,7 +51,7 @@ context_copied to from n whole = elim (cases_eq n 0) [
   ]
 ]
 
-frame_whole : (frames : List Context) (p count : ℕ) → length frames ≡ count → p < count → All IsContext frames → IsContext (get_or frames p (fresh_context 0))
+pub frame_whole : (frames : List Context) (p count : ℕ) → length frames ≡ count → p < count → All IsContext frames → IsContext (get_or frames p (fresh_context 0))
 frame_whole frames p count size low all = All-get_or IsContext frames p (fresh_context 0) (omega arith) all
 
 -- the words of the part that is held
@@ -161,41 +162,6 @@ keeps_still times file frames owners (Some p) next o later past at =
       contexts = λ part. ap (λ (x : Context). cond (p == part) x (get_or frames part (fresh_context 0))) (held_is later file _ far ∙ sym (held_is o file _ (inr past)));
     }
 
--- the owner of a slot has a number below the number of slots
-pub owner_below : (k : KernelState) (served : ℕ) → IsWhole k → IsBelow k.times.slots (owner_at k served)
-owner_below k served whole = elim (cases_lt served (length k.owners)) [
-  | inl inside ↦ All-get_or (IsBelow k.times.slots) k.owners served None inside whole.owned
-  | inr past ↦ subst (IsBelow k.times.slots) (sym (get_or_past k.owners served None past)) tt
-]
-
-pub whole_latched : (k : KernelState) (served : ℕ) → IsWhole k → IsWhole (latched k served)
-whole_latched k served whole = record {
-  frames = whole.frames;
-  owners = whole.owners;
-  held = whole.held;
-  next = owner_below k served whole;
-  owned = whole.owned;
-  file = whole.file;
-  contexts = whole.contexts;
-  installed_owners = whole.installed_owners;
-  installed_held = whole.installed_held;
-  installed_next = whole.installed_owners served;
-}
-
-pub whole_swapped : (k : KernelState) → IsWhole k → IsWhole (swapped k)
-whole_swapped k whole = record {
-  frames = whole.frames;
-  owners = whole.owners;
-  held = whole.next;
-  next = whole.next;
-  owned = whole.owned;
-  file = whole.file;
-  contexts = whole.contexts;
-  installed_owners = whole.installed_owners;
-  installed_held = whole.installed_next;
-  installed_next = whole.installed_next;
-}
-
 held_words : (k : KernelState) → HasWords k → HeldWords k.times.slots k.file k.frames k.held
 held_words k whole = record { size = whole.count; below = whole.held_below; file_is = whole.file; frame_is = whole.held }
 
@@ -252,66 +218,6 @@ row_keeps k served o later at whole step = elim (cases_lt o 66) [
       let Q : KernelState → Type 0 = λ s. Keeps k o s later in
       subst Q (sym (row_still k served o still)) (keeps_still k.times k.file k.frames k.owners k.held k.next o later still far)
 ]
-
--- and what a kernel's type keeps
-saved_whole : (times : FrameTimes) (file : Context) (frames : List Context) (owners : List (Option ℕ)) (held next : Option ℕ) (n : ℕ) → IsWhole (state times file frames owners held next) → IsWhole (saved (state times file frames owners held next) n)
-saved_whole times file frames owners None next n whole = whole
-saved_whole times file frames owners (Some p) next n whole =
-    let frame = get_or frames p (fresh_context 0) in
-    let ready = frame_whole frames p times.slots whole.frames whole.held whole.contexts in
-    record {
-      frames = length-set frames p (copied frame file n) ∙ whole.frames;
-      owners = whole.owners;
-      held = whole.held;
-      next = whole.next;
-      owned = whole.owned;
-      file = whole.file;
-      contexts = All-set IsContext frames p (copied frame file n) (context_copied frame file n ready) whole.contexts;
-      installed_owners = whole.installed_owners;
-      installed_held = whole.installed_held;
-      installed_next = whole.installed_next;
-    }
-
-restored_whole : (times : FrameTimes) (file : Context) (frames : List Context) (owners : List (Option ℕ)) (held next : Option ℕ) (n : ℕ) → IsWhole (state times file frames owners held next) → IsWhole (restored (state times file frames owners held next) n)
-restored_whole times file frames owners None next n whole = whole
-restored_whole times file frames owners (Some p) next n whole = record {
-  frames = whole.frames;
-  owners = whole.owners;
-  held = whole.held;
-  next = whole.next;
-  owned = whole.owned;
-  file = context_copied file (get_or frames p (fresh_context 0)) n whole.file;
-  contexts = whole.contexts;
-  installed_owners = whole.installed_owners;
-  installed_held = whole.installed_held;
-  installed_next = whole.installed_next;
-}
-
-pub row_whole : (k : KernelState) (served o : ℕ) → IsWhole k → IsWhole (kernel_row k served o)
-unfolding kernel_row
-row_whole k served o whole =
-    let one : (b : Bool) → IsWhole (saved (cond b (latched k served) k) o) = λ b. elim b as (λ b. IsWhole (saved (cond b (latched k served) k) o)) [
-      | true ↦ saved_whole k.times k.file k.frames k.owners k.held (owner_at k served) o (whole_latched k served whole)
-      | false ↦ saved_whole k.times k.file k.frames k.owners k.held k.next o whole
-    ] in
-    let two : (b : Bool) → IsWhole (restored (cond b (swapped k) k) (o - 33)) = λ b. elim b as (λ b. IsWhole (restored (cond b (swapped k) k) (o - 33))) [
-      | true ↦ restored_whole k.times k.file k.frames k.owners k.next k.next (o - 33) (whole_swapped k whole)
-      | false ↦ restored_whole k.times k.file k.frames k.owners k.held k.next (o - 33) whole
-    ] in
-    let last : (b : Bool) → IsWhole (cond b (restored (cond (o == 33) (swapped k) k) (o - 33)) k) = λ b. elim b as (λ b. IsWhole (cond b (restored (cond (o == 33) (swapped k) k) (o - 33)) k)) [ true ↦ two (o == 33) | false ↦ whole ] in
-    let first : (b : Bool) → IsWhole (cond b (saved (cond (o == 0) (latched k served) k) o) (cond (nat_lt o 66) (restored (cond (o == 33) (swapped k) k) (o - 33)) k)) = λ b. elim b as (λ b. IsWhole (cond b (saved (cond (o == 0) (latched k served) k) o) (cond (nat_lt o 66) (restored (cond (o == 33) (swapped k) k) (o - 33)) k))) [ true ↦ one (o == 0) | false ↦ last (nat_lt o 66) ] in
-    first (nat_lt o 33)
-
--- a kernel as its calls keep it has them
-pub whole_words : (k : KernelState) → IsWhole k → HasWords k
-whole_words k whole = record {
-  count = whole.frames;
-  held_below = whole.held;
-  next_below = whole.next;
-  file = whole.file;
-  held = IfSome_then k.held whole.held (λ p low. frame_whole k.frames p k.times.slots whole.frames low whole.contexts);
-  next = IfSome_then k.next whole.next (λ p low. frame_whole k.frames p k.times.slots whole.frames low whole.contexts);
-}
 
 -- a cycle of the kernel
 pub cycle_keeps : (k : KernelState) (cycle : ℕ) → IsFrame k.times → HasWords k → InStep k (offset_at k.times cycle) → Keeps k (offset_at k.times cycle) (kernel_cycle k cycle) (offset_at k.times (cycle + 1))

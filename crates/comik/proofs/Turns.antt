@@ -5,11 +5,14 @@ use Rattle.std.proofs.lemmas.Bool.{cases_eq, cases_Bool, eq-eqb, ne_eqb, eqb-tru
 use Rattle.std.proofs.lemmas.Option.{IfSome_then}
 use Rattle.soc_base.specs.Time.{FrameTimes, instance_cycles, instance_at, offset_at, served_at, is_among, runs}
 use Rattle.soc_base.specs.Frame.{IsFrame}
-use Rattle.comik.specs.Kernel.{KernelState, AreFree, least_slot, without, has, owner_at, kernel_cycle, prepared, cleared}
+use Rattle.comik.specs.Kernel.{KernelState, AreFree, least_slot, without, has, owner_at, fresh_kernel}
+use Rattle.comik.specs.Parts.{prepared, cleared}
+use Rattle.comik.specs.Table.{kernel_cycle}
+use Rattle.comik.specs.Turn.{if_began, part_of_instance, InTurn, TurnOf}
 use Rattle.comik.proofs.Times.{next_cycle, cycle_split}
 use Rattle.comik.proofs.Owners.{claimed_at, freed_at}
 use Rattle.comik.proofs.Rows.{row_parts}
-use Rattle.comik.specs.Turn.{if_began, part_of_instance, InTurn, TurnOf}
+use Rattle.comik.proofs.Whole.{none_at}
 
 began_all : (starts : ℕ → ℕ) (at : ℕ) (place : Option ℕ) → IfSome place (λ part. starts part ≤ at) → if_began starts at place ≡ place
 began_all starts at None begun = refl
@@ -165,3 +168,13 @@ held_runs times owners held next starts slots part c frame turn past owns =
     ∙ has_began starts at part (get_or owners (served_at times c) None)
     ∙ ap (λ b. b && nat_le (starts part) at) owns
     ∙ sym (ap (λ b. b && is_among (served_at times c) slots && nat_le (starts part) at) test)
+
+-- before the first cycle
+pub turn_fresh : (times : FrameTimes) (starts : ℕ → ℕ) → TurnOf (fresh_kernel times) starts 0
+turn_fresh times starts =
+    let first : offset_at times 0 ≡ 0 = omega arith in
+    record {
+      next_is = λ some. absurd (omega arith);
+      held_is = λ some. absurd (omega arith);
+      begun = λ slot. subst (λ (o : Option ℕ). IfSome o (λ part. starts part ≤ 0)) (sym (none_at times slot)) tt;
+    }

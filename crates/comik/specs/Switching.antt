@@ -1,14 +1,8 @@
 -- Where the words of a part are while they are copied, one a cycle, and what is in step.
 use Rattle.std.specs.Prelude.{◌≡◌, ℕ, ◌-◌, ◌<◌, ◌≤◌, ◌==◌, ◌&&◌, nat_lt, List, length, get_or, take, drop, ◌++◌, if◌then◌else◌, Option, IfSome, All}
-use Rattle.rv_core.specs.Registers.{register_at}
 use Rattle.comik.specs.declared.context.Context.{Context}
-use Rattle.comik.specs.Context.{fresh_context}
-use Rattle.comik.specs.Kernel.{KernelState, has, IsBelow, IsInstalled, owner_at, frame_at}
-
--- a context that a core can hold: 32 registers, of which x0 is zero
-pub record IsContext (context : Context) : Type 0 where
-  pub count : length context.regs.x ≡ 32
-  pub zero : register_at context.regs 0 ≡ 0
+use Rattle.comik.specs.Context.{fresh_context, IsContext}
+use Rattle.comik.specs.Kernel.{KernelState, has, IsBelow, IsKernel, frame_at}
 
 -- the words below number n of one context, and from n on those of another
 abbrev pub blend : ℕ → Context → Context → Context
@@ -38,7 +32,13 @@ pub record IsSaved (offset : ℕ) (file frame : Context) : Type 0 where
 abbrev pub InStep : KernelState → ℕ → Type 0
 InStep k offset = IfSome k.held (λ part. IsSaved offset k.file (frame_at k part))
 
--- what a row asks: the register file and the frames of the parts that are held and next are contexts
+-- from one state to another, before the cycles at two offsets: every part has the words that it had, and
+-- the kernel is in step
+pub record Keeps (k : KernelState) (offset : ℕ) (after : KernelState) (later : ℕ) : Type 0 where
+  pub step : InStep after later
+  pub contexts : (part : ℕ) → context_of after later part ≡ context_of k offset part
+
+-- the register file and the frames of the parts that are held and next are contexts
 pub record HasWords (k : KernelState) : Type 0 where
   pub count : length k.frames ≡ k.times.slots
   pub held_below : IsBelow k.times.slots k.held
@@ -47,21 +47,8 @@ pub record HasWords (k : KernelState) : Type 0 where
   pub held : IfSome k.held (λ part. IsContext (frame_at k part))
   pub next : IfSome k.next (λ part. IsContext (frame_at k part))
 
--- a kernel as its calls keep it
+-- a kernel all of whose words are contexts
 pub record IsWhole (k : KernelState) : Type 0 where
-  pub frames : length k.frames ≡ k.times.slots
-  pub owners : length k.owners ≡ k.times.slots
-  pub held : IsBelow k.times.slots k.held
-  pub next : IsBelow k.times.slots k.next
-  pub owned : All (IsBelow k.times.slots) k.owners
+  pub kernel : IsKernel k
   pub file : IsContext k.file
   pub contexts : All IsContext k.frames
-  pub installed_owners : (slot : ℕ) → IfSome (owner_at k slot) (IsInstalled k)
-  pub installed_held : IfSome k.held (IsInstalled k)
-  pub installed_next : IfSome k.next (IsInstalled k)
-
--- from one state to another, before the cycles at two offsets: every part has the words that it had, and
--- the kernel is in step
-pub record Keeps (k : KernelState) (offset : ℕ) (after : KernelState) (later : ℕ) : Type 0 where
-  pub step : InStep after later
-  pub contexts : (part : ℕ) → context_of after later part ≡ context_of k offset part

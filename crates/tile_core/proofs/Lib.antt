@@ -1,1 +1,6 @@
 pub mod Memory
+pub mod Installed
+pub mod Frames
+pub mod Sizes
+pub mod Shapes
+pub mod Holding

@@ -4,7 +4,7 @@ use Rattle.soc_base.specs.Time.{offset_at}
 use Rattle.platform_model.specs.declared.costs.Costs.{Costs}
 use Rattle.bundle_model.specs.declared.bundle.Part.{Part}
 use Rattle.comik.specs.declared.context.Context.{Context}
-use Rattle.comik.specs.Kernel.{kernel_cycle}
+use Rattle.comik.specs.Table.{kernel_cycle}
 use Rattle.tile_memory.specs.Bytes.{with_region}
 use Rattle.part_model.specs.declared.record.Place.{Place}
 use Rattle.part_model.specs.Part.{PartState, part_cycle}

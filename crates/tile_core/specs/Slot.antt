@@ -8,7 +8,7 @@ use Rattle.bundle_model.specs.declared.bundle.Part.{Part}
 use Rattle.bundle_model.specs.declared.world.World.{World}
 use Rattle.bundle_model.specs.declared.world.Grant.{Grant}
 use Rattle.bundle_model.specs.World.{same_label}
-use Rattle.comik.specs.Kernel.{prepared, cleared}
+use Rattle.comik.specs.Parts.{prepared, cleared}
 use Rattle.tile_memory.specs.Bytes.{with_region, filled_bytes}
 use Rattle.tile_core.specs.Tile.{TileState, number_of, load_part, load_place}
 use Rattle.tile_core.specs.Cycle.{tile_cycle}

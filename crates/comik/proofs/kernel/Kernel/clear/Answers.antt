@@ -1,11 +1,8 @@
 use Rattle.std.proofs.Common.{subst, sym, ap, ◌∙◌}
 use Rattle.comik.specs.Kernel.{KernelState}
-use Rattle.comik.specs.Switching.{IsWhole, InStep, context_of}
-use Rattle.comik.proofs.Parts.{cleared_whole, cleared_in_step, cleared_others}
+use Rattle.comik.specs.Switching.{InStep, context_of}
+use Rattle.comik.proofs.Parts.{cleared_in_step, cleared_others}
 use Rattle.comik.proofs.kernel.Kernel.clear.Goals as goal
-
-pub returns-clause-whole : goal.returns-clause-whole
-returns-clause-whole c = λ whole. subst IsWhole (sym c.remove.ensures) (cleared_whole c.args.self.now c.args.part whole)
 
 pub returns-clause-step : goal.returns-clause-step
 returns-clause-step c = λ offset step.

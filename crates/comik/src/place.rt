@@ -1,22 +1,22 @@
-//! The frame by which parts share a core.
+//! Where a cycle lies in the frame.
 
-ghost use Rattle.std.specs.Prelude.{ℕ, ◌≡◌, ◌<◌, ◌+◌, ◌==◌};
+ghost use Rattle.std.specs.Prelude.{ℕ, ◌≡◌, ◌+◌, ◌≤◌};
 ghost use Rattle.soc_base.specs.Time.{instance_cycles};
 ghost use Rattle.soc_base.specs.Frame.{IsFrame};
 ghost use Rattle.comik.specs.Places.{frame_place, IsPlace};
 
 use soc_base::{Frame, instance_of};
 
-/// Where a cycle lies in the frame: the partition slot that is served, and the offset.
+/// Where a cycle lies in the frame.
 #[derive(Clone, Copy)]
 pub struct FramePlace {
-    /// The partition slot that is served.
+    /// The partition slot that its instance serves, from 0 to `slots - 1`.
     pub served: u8,
-    /// The distance from the instance's beginning.
+    /// The distance in cycles from its instance's beginning.
     pub offset: u32,
 }
 
-/// Answers where a cycle lies in the frame.
+/// Answers where a cycle lies in the frame. It divides.
 pub fn frame_place(frame: &Frame, cycle: u64) -> FramePlace
     ensures place { result ≡ frame_place frame.now cycle }
     ensures valid { IsPlace frame.now result }
@@ -28,8 +28,8 @@ pub fn frame_place(frame: &Frame, cycle: u64) -> FramePlace
     }
 }
 
-// The cycles of an instance, and the number of partition slots.
-fn sizes(frame: &Frame) -> (u32, u8)
+/// Answers the cycles of an instance, and the number of partition slots.
+pub fn sizes(frame: &Frame) -> (u32, u8)
     ensures length { result.0 ≡ instance_cycles frame.now }
     ensures slots { result.1 ≡ frame.now.slots }
     ensures valid { IsFrame frame.now }
@@ -37,18 +37,20 @@ fn sizes(frame: &Frame) -> (u32, u8)
     (u32::from(frame.kernel) + frame.partition, frame.slots)
 }
 
-/// Answers where the next cycle lies.
+/// Answers where the cycle lies that comes `count` cycles after one, at most the first of the next
+/// instance. It only counts.
 #[tactic(auto, using(crate::proofs::Places::place_within, crate::proofs::Places::place_next, crate::proofs::Places::place_around))]
-pub fn next_place(frame: &Frame, at: FramePlace) -> FramePlace
-    requires { IsPlace frame.now at }
+pub fn place_after(frame: &Frame, at: FramePlace, count: u32) -> FramePlace
+    requires place { IsPlace frame.now at }
+    requires within { at.offset + count ≤ instance_cycles frame.now }
     ensures valid { IsPlace frame.now result }
-    ensures next { (cycle : ℕ) → at ≡ frame_place frame.now cycle → result ≡ frame_place frame.now (cycle + 1) }
+    ensures after { (cycle : ℕ) → at ≡ frame_place frame.now cycle → result ≡ frame_place frame.now (cycle + count) }
 {
     let (length, slots) = sizes(frame);
-    if at.offset + 1 < length {
+    if at.offset + count < length {
         return FramePlace {
             served: at.served,
-            offset: at.offset + 1,
+            offset: at.offset + count,
         };
     }
     FramePlace {

@@ -1,6 +1,6 @@
 use Rattle.std.proofs.Common.{◌≡◌, ◌++◌, map, take, drop}
 use Rattle.comik.specs.Kernel.{without}
-use Rattle.comik.proofs.kernel.free.Given as goal
+use Rattle.comik.proofs.owner.free.Given as goal
 
 abbrev pub invariant-loop-owner : goal.invariant-loop-owner
 invariant-loop-owner l =

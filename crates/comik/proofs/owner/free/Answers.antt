@@ -2,7 +2,7 @@ use Rattle.std.proofs.Common.{None, ap, slice_set, arith, ◌∙◌, get_or}
 use Rattle.std.proofs.lemmas.List.Edits.{map_over_more}
 use Rattle.std.proofs.lemmas.List.{get_or_default}
 use Rattle.comik.specs.Kernel.{without}
-use Rattle.comik.proofs.kernel.free.Goals as goal
+use Rattle.comik.proofs.owner.free.Goals as goal
 
 pub loop-owner-preserved : goal.loop-owner-preserved
 loop-owner-preserved c =

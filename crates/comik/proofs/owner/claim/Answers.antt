@@ -1,7 +1,7 @@
 use Rattle.std.proofs.Common.{sym, ap, ◌∙◌}
-use Rattle.comik.specs.Kernel.{claimed_slot}
+use Rattle.comik.specs.Parts.{claimed_slot}
 use Rattle.comik.proofs.Owners.{claimed_more}
-use Rattle.comik.proofs.kernel.claim.Goals as goal
+use Rattle.comik.proofs.owner.claim.Goals as goal
 
 pub loop-slot-preserved : goal.loop-slot-preserved
 loop-slot-preserved c =
