@@ -4,3 +4,5 @@ pub mod Frames
 pub mod Sizes
 pub mod Shapes
 pub mod Holding
+pub mod Coming
+pub mod Going
