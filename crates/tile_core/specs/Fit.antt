@@ -1,5 +1,5 @@
 -- What is installed on a tile, and what a tile needs for a slot.
-use Rattle.std.specs.Prelude.{◌≡◌, ℕ, ◌*◌, ◌<◌, ◌≤◌, ◌==◌, Bool, ◌&&◌, nat_lt, List, find, length, slice_get, option_map, Option, Some, IsSome}
+use Rattle.std.specs.Prelude.{◌≡◌, ℕ, ◌*◌, ◌<◌, ◌≤◌, ◌==◌, ◌&&◌, List, find, length, slice_get, option_map, Option, Some, IsSome}
 use Rattle.std.specs.Option.{option_and_then}
 use Rattle.std.specs.Int.{bit_at}
 use Rattle.soc_base.specs.declared.label.Label.{Label}
@@ -10,14 +10,11 @@ use Rattle.bundle_model.specs.declared.world.World.{World}
 use Rattle.bundle_model.specs.declared.world.LoadName.{LoadName}
 use Rattle.bundle_model.specs.declared.world.Grant.{Grant}
 use Rattle.bundle_model.specs.declared.world.Schedule.{Schedule}
-use Rattle.bundle_model.specs.Grants.{IsApart, lasts_to}
+use Rattle.bundle_model.specs.Grants.{IsApart, stands_at}
 use Rattle.bundle_model.specs.World.{IsSoundWorld, AreOfLoads, same_label}
 use Rattle.comik.specs.Kernel.{IsInstalled, owner_at, has}
 use Rattle.tile_core.specs.Tile.{TileState, number_of, place_at, load_part, loads_on}
 
--- the grant stands at the beginning of a slot: it began before, and is open or doesn't end before the slot
-abbrev pub stands_at : ℕ → Grant → Bool
-stands_at slot grant = nat_lt grant.start slot && lasts_to slot grant.end
 
 -- the grant of a load that stands at the beginning of a slot, if there is one
 abbrev pub standing_grant : List Grant → ℕ → Label → Option Grant

@@ -16,7 +16,7 @@ use Rattle.part_model.specs.Part.{PartState, part_cycle}
 use Rattle.tile_core.specs.Tile.{TileState, load_part}
 use Rattle.tile_core.specs.Cycle.{core_place}
 use Rattle.tile_core.specs.Slot.{grant_of, begins_in}
-use Rattle.tile_core.specs.Fit.{stands_at}
+use Rattle.bundle_model.specs.Grants.{stands_at}
 
 -- a part after a cycle, where its application is granted from cycle `start` on
 abbrev pub granted_step : FrameTimes → Costs → ℕ → ℕ → Part → PartState → PartState
