@@ -6,3 +6,9 @@ pub mod Shapes
 pub mod Holding
 pub mod Coming
 pub mod Going
+pub mod Standing
+pub mod Sites
+pub mod Lists
+pub mod Folding
+pub mod Rooms
+pub mod Starting
