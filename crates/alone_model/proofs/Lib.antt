@@ -1,4 +1,5 @@
 pub mod Ended
+pub mod Stretches
 pub mod Merged
 pub mod Opening
 pub mod KeptLogs

@@ -1,91 +1,87 @@
--- Of the grants that are present in a slot at most one holds a resource, and their parts on one tile are
--- disjoint.
-use Rattle.std.proofs.Common.{◌≡◌, ◌≢◌, ℕ, zero, suc, ◌+◌, ◌<◌, ◌≤◌, ◌⊎◌, nat_lt, ◌==◌, ◌&&◌, Bool, true, List, [], ◌∷◌, slice_get, Option, Some, None, IsTrue, IsSomeAnd, refl, ap, ◌∙◌, inl, inr, arith}
-use Rattle.std.specs.List.{list_any}
-use Rattle.std.proofs.lemmas.Bool.{cases_order, and_parts, or_left, or_right, and_from, ltb-true, leb-true, le-leb, lt-ltb, eq-eqb}
-use Rattle.std.proofs.lemmas.Option.{none-some, same_Some}
+-- The parts of grants that stand in one slot share nothing.
+use Rattle.std.proofs.Common.{◌≡◌, ◌≢◌, ℕ, ◌<◌, ◌==◌, true, List, slice_get, find, Option, Some, None, Result, Ok, Err, Contains, IfOk, refl, sym, ap, ap₂, ◌∙◌, subst, inl, inr, arith}
+use Rattle.std.proofs.lemmas.Bool.{cases_order, and_parts, and_from, eqb-true, eq-eqb}
+use Rattle.std.proofs.lemmas.Option.{none-some, same_Some, option_and_then_some}
+use Rattle.soc_base.specs.declared.label.Label.{Label}
 use Rattle.bundle_model.specs.declared.bundle.Part.{Part}
-use Rattle.bundle_model.specs.declared.resource.Resource.{Resource}
-use Rattle.bundle_model.specs.declared.resource.Resource.TheVariants.{Partition, Span, Port, Inject, LinkSlot, Deliver}
+use Rattle.bundle_model.specs.declared.bundle.Bundle.{Bundle}
+use Rattle.bundle_model.specs.declared.rules.BRule.{BRule}
+use Rattle.bundle_model.specs.declared.world.Named.{Named}
 use Rattle.bundle_model.specs.declared.world.World.{World}
+use Rattle.bundle_model.specs.declared.world.LoadName.{LoadName}
 use Rattle.bundle_model.specs.declared.world.Grant.{Grant}
-use Rattle.bundle_model.specs.Resources.{shares_byte, meets_of}
-use Rattle.bundle_model.specs.Grants.{IsApart, EndsBefore, grant_resources, do_meet, lasts_to}
-use Rattle.bundle_model.specs.World.{part_on, IsSoundCatalog}
-use Rattle.bundle_model.proofs.Keyed.{pair_at}
-use Rattle.bundle_model.proofs.Catalog.{is_part_on}
-use Rattle.bundle_model.proofs.Meeting.{AreDisjoint, disjoint_sym, parts_disjoint}
+use Rattle.bundle_model.specs.WellFormed.{IsWellFormedPart, IsWellFormed}
+use Rattle.bundle_model.specs.Grants.{bundle_at, kept_bundle, do_meet, stands_at, IsApart}
+use Rattle.bundle_model.specs.World.{same_label, part_on, IsSoundCatalog, AreOfLoads}
+use Rattle.bundle_model.proofs.Keyed.{AreKeyed, at_place, contained_place, found_place}
+use Rattle.bundle_model.proofs.Present.{present_now, present_unmet}
+use Rattle.bundle_model.proofs.Meeting.{AreDisjoint, HasPart, parts_disjoint}
 
--- a grant that has begun by a slot and isn't over before it: it stands at the slot, or begins in it. One
--- that ends in the slot is present in it still.
-pub record IsPresent (grants : List Grant) (slot at : ℕ) (grant : Grant) : Type 0 where
-  pub there : slice_get grants at ≡ Some grant
-  pub begun : grant.start ≤ slot
-  pub lasts : lasts_to slot grant.end ≡ true
+-- labels that are found to be one are one
+pub same_so : (one other : Label) → same_label one other ≡ true → one ≡ other
+same_so one other same =
+    let both = and_parts (one.session == other.session) (one.load == other.load) same in
+    ap₂ (λ s l. record { session = s; load = l }) (eqb-true one.session other.session both.0) (eqb-true one.load other.load both.1)
 
--- a grant that lasts to a slot lasts to the one before
-pub lasts_less : (slot : ℕ) (end : Option ℕ) → lasts_to (slot + 1) end ≡ true → lasts_to slot end ≡ true
-lasts_less slot None lasts = refl
-lasts_less slot (Some end) lasts = let later = leb-true (slot + 1) end lasts in le-leb slot end (omega arith)
+pub same_label-itself : (label : Label) → same_label label label ≡ true
+same_label-itself label = and_from (label.session == label.session) (label.load == label.load) (eq-eqb label.session label.session refl) (eq-eqb label.load label.load refl)
 
--- of two present grants none ends before the other begins
-not_before : (slot start : ℕ) (end : Option ℕ) → lasts_to slot end ≡ true → start ≤ slot → IsSomeAnd end (λ e. e < start) → ⊥
-not_before slot start None lasts begun before = before
-not_before slot start (Some end) lasts begun before = let later = leb-true slot end lasts in omega arith
+kept_sound : (P : Bundle → Type 0) (judged : Result Bundle BRule) (bundle : Bundle) → IfOk judged P → kept_bundle judged ≡ Some bundle → P bundle
+kept_sound P (Ok kept) bundle sound is = subst P (same_Some kept bundle is) sound
+kept_sound P (Err rule) bundle sound is = absurd (none-some bundle is)
 
--- so their resources don't meet
-pub unmet : (world : World) (grants : List Grant) (slot i j : ℕ) (one other : Grant) → IsApart world grants → i < j → IsPresent grants slot i one → IsPresent grants slot j other → do_meet world one other ≡ true → ⊥
-unmet world grants slot i j one other apart before x y meet =
-    elim (pair_at (λ (a b : Grant). IsTrue (do_meet world a b) → EndsBefore a b ⊎ EndsBefore b a) grants i j one other apart.apart before x.there y.there meet) [
-      | inl first ↦ not_before slot other.start one.end x.lasts y.begun first
-      | inr last ↦ not_before slot one.start other.end y.lasts x.begun last
-    ]
+pub sound_bundle : (world : World) (place : ℕ) (bundle : Bundle) → IsSoundCatalog world → bundle_at world place ≡ Some bundle → IsWellFormed world.platform bundle
+sound_bundle world place bundle sound is =
+    option_and_then_some (λ (named : Named). kept_bundle named.judged) (slice_get world.catalog place) bundle is (λ named there kept.
+    kept_sound (IsWellFormed world.platform) named.judged bundle (at_place (λ (n : Named). IfOk n.judged (IsWellFormed world.platform)) world.catalog place named sound there) kept)
 
--- their parts on one tile are disjoint
-pub present_disjoint : (world : World) (grants : List Grant) (slot i j : ℕ) (one other : Grant) (number : ℕ) (one_part other_part : Part) → IsSoundCatalog world → IsApart world grants → i ≢ j → IsPresent grants slot i one → IsPresent grants slot j other → part_on world number one.bundle ≡ Some one_part → part_on world number other.bundle ≡ Some other_part → AreDisjoint one_part other_part
-present_disjoint world grants slot i j one other number one_part other_part sound apart differ x y on_one on_other =
-    let a = is_part_on world number one.bundle one_part sound on_one in
-    let b = is_part_on world number other.bundle other_part sound on_other in
-    elim (cases_order i j) [
-      | inl same ↦ absurd (differ same)
-      | inr (inl before) ↦ parts_disjoint world one other number one_part other_part a b (unmet world grants slot i j one other apart before x y)
-      | inr (inr behind) ↦ disjoint_sym other_part one_part (parts_disjoint world other one number other_part one_part b a (unmet world grants slot j i other one apart behind y x))
-    ]
+-- the part of a bundle on a tile
+pub record IsPartOn (world : World) (number place : ℕ) (part : Part) : Type 0 where
+  pub bundle : Bundle
+  pub bundled : bundle_at world place ≡ Some bundle
+  pub at : ℕ
+  pub there : slice_get bundle.parts at ≡ Some part
+  pub tile : part.tile ≡ number
+  pub sound : IsWellFormedPart world.platform part
 
-any_at : {X : Type 0} (test : X → Bool) (xs : List X) (k : ℕ) (x : X) → slice_get xs k ≡ Some x → test x ≡ true → list_any test xs ≡ true
-any_at test [] k x there passes = absurd (none-some x there)
-any_at test (y ∷ xs) zero x there passes = or_left (test y) (list_any test xs) (ap test (same_Some y x there) ∙ passes)
-any_at test (y ∷ xs) (suc k) x there passes = or_right (test y) (list_any test xs) (any_at test xs k x there passes)
+pub is_part_on : (world : World) (number place : ℕ) (part : Part) → IsSoundCatalog world → part_on world number place ≡ Some part → IsPartOn world number place part
+is_part_on world number place part sound is =
+    option_and_then_some (λ (bundle : Bundle). find (λ p. p.tile == number) bundle.parts) (bundle_at world place) part is (λ bundle bundled found.
+    let at = found_place (λ (p : Part). p.tile == number) bundle.parts part found in
+    record {
+      bundle = bundle;
+      bundled = bundled;
+      at = at.0;
+      there = at.1;
+      tile = eqb-true part.tile number at.2;
+      sound = at_place (IsWellFormedPart world.platform) bundle.parts at.0 part (sound_bundle world place bundle sound bundled).parts at.1;
+    })
 
-same_number : (n : ℕ) → (n == n) ≡ true
-same_number n = eq-eqb n n refl
+-- a grant is of the bundle that its load names
+pub grant_bundle : (loads : List LoadName) (grants : List Grant) (at k : ℕ) (grant : Grant) (load : LoadName) → AreKeyed (λ (l : LoadName). l.label) loads → AreOfLoads loads grants → slice_get grants k ≡ Some grant → slice_get loads at ≡ Some load → grant.label ≡ load.label → grant.bundle ≡ load.bundle
+grant_bundle loads grants at k grant load keyed of there load_there same =
+    let named : LoadName = record { label = grant.label; bundle = grant.bundle } in
+    let contained = contained_place loads named (at_place (λ (g : Grant). Contains loads (record { label = g.label; bundle = g.bundle })) grants k grant of there) in
+    let one : at ≡ contained.0 = keyed at contained.0 load named load_there contained.1 (sym same) in
+    let load_is : load ≡ named = same_Some load named (sym load_there ∙ ap (slice_get loads) one ∙ contained.1) in
+    sym (ap (λ (l : LoadName). l.bundle) load_is)
 
-two_same : (n m : ℕ) → (n == n && m == m) ≡ true
-two_same n m = and_from (n == n) (m == m) (same_number n) (same_number m)
+-- the resources of grants that stand in one slot don't meet
+pub unmet : (world : World) (grants : List Grant) (slot i j : ℕ) (one other : Grant) → IsApart world grants → i < j → slice_get grants i ≡ Some one → slice_get grants j ≡ Some other → stands_at slot one ≡ true → stands_at slot other ≡ true → do_meet world one other ≡ true → ⊥
+unmet world grants slot i j one other apart before at_i at_j one_stands other_stands meet =
+    present_unmet world grants slot i j one other apart before (present_now grants slot i one at_i one_stands) (present_now grants slot j other at_j other_stands) meet
 
--- a resource meets itself
-pub meets_itself : (r : Resource) → meets_of r r ≡ true
-meets_itself (Partition tile slot) = or_left _ _ (two_same tile slot)
-meets_itself (Span tile base len) = or_left _ (shares_byte (Span tile base len) (Span tile base len)) (and_from (tile == tile && base == base) (len == len) (two_same tile base) (same_number len))
-meets_itself (Port tile port) = or_left _ _ (two_same tile port)
-meets_itself (Inject tile slot) = or_left _ _ (two_same tile slot)
-meets_itself (LinkSlot link slot) = or_left _ _ (two_same link slot)
-meets_itself (Deliver tile slot) = or_left _ _ (two_same tile slot)
+disjoint_sym : (one other : Part) → AreDisjoint one other → AreDisjoint other one
+disjoint_sym one other apart = record {
+  slots = λ slot in_other in_one. apart.slots slot in_one in_other;
+  regions = elim apart.regions [ inl before ↦ inr before | inr behind ↦ inl behind ];
+}
 
-they_meet : (world : World) (one other : Grant) (k m : ℕ) (r s : Resource) → slice_get (grant_resources world one) k ≡ Some r → slice_get (grant_resources world other) m ≡ Some s → meets_of r s ≡ true → do_meet world one other ≡ true
-they_meet world one other k m r s at_k at_m meet =
-    any_at (λ resource. list_any (λ held. meets_of held resource) (grant_resources world one)) (grant_resources world other) m s at_m
-    (any_at (λ held. meets_of held s) (grant_resources world one) k r at_k meet)
-
--- grants that are present in one slot and hold resources of which each meets the other are one
-pub one_meets : (world : World) (grants : List Grant) (slot i j k m : ℕ) (one other : Grant) (r s : Resource) → IsApart world grants → IsPresent grants slot i one → IsPresent grants slot j other → slice_get (grant_resources world one) k ≡ Some r → slice_get (grant_resources world other) m ≡ Some s → meets_of r s ≡ true → meets_of s r ≡ true → i ≡ j
-one_meets world grants slot i j k m one other r s apart x y at_k at_m meet met = elim (cases_order i j) [
-  | inl same ↦ same
-  | inr (inl before) ↦ absurd (unmet world grants slot i j one other apart before x y (they_meet world one other k m r s at_k at_m meet))
-  | inr (inr behind) ↦ absurd (unmet world grants slot j i other one apart behind y x (they_meet world other one m k s r at_m at_k met))
+-- THE LAW OF HOLDERS, for parts: where two grants stand in one slot, their parts of one tile share no
+-- partition slot and no byte
+pub standing_disjoint : (world : World) (grants : List Grant) (slot i j : ℕ) (one other : Grant) (one_part other_part : Part) → IsApart world grants → i ≢ j → slice_get grants i ≡ Some one → slice_get grants j ≡ Some other → stands_at slot one ≡ true → stands_at slot other ≡ true → HasPart world one one_part → HasPart world other other_part → one_part.tile ≡ other_part.tile → AreDisjoint one_part other_part
+standing_disjoint world grants slot i j one other one_part other_part apart differ at_i at_j one_stands other_stands a b tile = elim (cases_order i j) [
+  | inl same ↦ absurd (differ same)
+  | inr (inl before) ↦ parts_disjoint world one other one_part other_part a b tile (unmet world grants slot i j one other apart before at_i at_j one_stands other_stands)
+  | inr (inr behind) ↦ disjoint_sym other_part one_part (parts_disjoint world other one other_part one_part b a (sym tile) (unmet world grants slot j i other one apart behind at_j at_i other_stands one_stands))
 ]
-
--- so at most one of them holds a resource
-pub one_holder : (world : World) (grants : List Grant) (slot i j k m : ℕ) (one other : Grant) (r : Resource) → IsApart world grants → IsPresent grants slot i one → IsPresent grants slot j other → slice_get (grant_resources world one) k ≡ Some r → slice_get (grant_resources world other) m ≡ Some r → i ≡ j
-one_holder world grants slot i j k m one other r apart x y at_k at_m =
-    one_meets world grants slot i j k m one other r r apart x y at_k at_m (meets_itself r) (meets_itself r)

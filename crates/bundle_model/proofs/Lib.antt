@@ -3,7 +3,7 @@ pub mod Unbroken
 pub mod Listing
 pub mod Places
 pub mod Keyed
-pub mod Catalog
 pub mod Meeting
+pub mod Present
 pub mod Holders
 pub mod Laws

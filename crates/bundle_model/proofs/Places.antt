@@ -5,19 +5,6 @@ use Rattle.std.proofs.lemmas.Bool.{cases_Bool, ltb-false, false_from_ne_true, co
 use Rattle.std.proofs.lemmas.Option.{none-some, same_Some, slice_get_within, slice_get-get_or}
 use Rattle.std.proofs.lemmas.List.Quantifiers.{position-Some}
 
--- what agrees at each place gives the same list
-pub map_same : {X Y : Type 0} (f g : X → Y) (xs : List X) → ((k : ℕ) (x : X) → slice_get xs k ≡ Some x → g x ≡ f x) → map g xs ≡ map f xs
-map_same f g [] same = refl
-map_same f g (x ∷ xs) same = ap₂ (λ y ys. y ∷ ys) (same zero x refl) (map_same f g xs (λ k y at. same (suc k) y at))
-
--- what differs at one place only is set there
-pub set_map : {X Y : Type 0} (f g : X → Y) (xs : List X) (k : ℕ) (x : X) → slice_get xs k ≡ Some x → ((j : ℕ) (y : X) → slice_get xs j ≡ Some y → j ≢ k → g y ≡ f y) → slice_set (map f xs) k (g x) ≡ map g xs
-set_map f g [] k x at same = absurd (none-some x at)
-set_map f g (y ∷ xs) zero x at same =
-    ap₂ (λ z zs. z ∷ zs) (ap g (sym (same_Some y x at))) (sym (map_same f g xs (λ k z there. same (suc k) z there (λ e. omega arith))))
-set_map f g (y ∷ xs) (suc k) x at same =
-    ap₂ (λ z zs. z ∷ zs) (sym (same zero y refl (λ e. omega arith))) (set_map f g xs k x at (λ j z there other. same (suc j) z there (λ e. other (omega arith))))
-
 -- an item that is made stands where the item does that it is made of
 pub mapped_place : {X Y : Type 0} (f : X → Y) (xs : List X) (k : ℕ) (y : Y) → slice_get (map f xs) k ≡ Some y → (x : X) × (slice_get xs k ≡ Some x) × (f x ≡ y)
 mapped_place f [] k y at = absurd (none-some y at)
@@ -31,34 +18,6 @@ find_map f test (x ∷ xs) = elim (test (f x)) as (λ b. cond b (Some (f x)) (fi
   | true ↦ refl
   | false ↦ find_map f test xs
 ]
-
--- what is found stands at a place and passes
-pub found_place : {X : Type 0} (test : X → Bool) (xs : List X) (x : X) → find test xs ≡ Some x → (k : ℕ) × (slice_get xs k ≡ Some x) × (test x ≡ true)
-found_place test [] x found = absurd (none-some x found)
-found_place test (y ∷ xs) x found = elim (cases_Bool (test y)) [
-  | inl passes ↦
-      let same : y ≡ x = same_Some y x (sym (cond-true (test y) (Some y) (find test xs) passes) ∙ found) in
-      (zero, ap (λ z. Some z) same, ap test (sym same) ∙ passes)
-  | inr fails ↦
-      let rest = found_place test xs x (sym (cond-false (test y) (Some y) (find test xs) fails) ∙ found) in
-      (suc rest.0, rest.1, rest.2)
-]
-
--- what passes at one place alone is found
-pub found_at : {X : Type 0} (test : X → Bool) (xs : List X) (k : ℕ) (x : X) → slice_get xs k ≡ Some x → test x ≡ true → ((j : ℕ) (y : X) → slice_get xs j ≡ Some y → test y ≡ true → j ≡ k) → find test xs ≡ Some x
-found_at test [] k x there passes alone = absurd (none-some x there)
-found_at test (y ∷ xs) zero x there passes alone =
-    let same = same_Some y x there in
-    cond-true (test y) (Some y) (find test xs) (ap test same ∙ passes) ∙ there
-found_at test (y ∷ xs) (suc k) x there passes alone =
-    let fails : test y ≡ false = false_from_ne_true (test y) (λ also. let one : zero ≡ suc k = alone zero y refl also in omega arith) in
-    cond-false (test y) (Some y) (find test xs) fails
-    ∙ found_at test xs k x there passes (λ j z at also. let one : suc j ≡ suc k = alone (suc j) z at also in omega arith)
-
--- where none passes, none is found
-pub none_found : {X : Type 0} (test : X → Bool) (xs : List X) → ((k : ℕ) (x : X) → slice_get xs k ≡ Some x → test x ≡ false) → find test xs ≡ None
-none_found test [] fails = refl
-none_found test (x ∷ xs) fails = cond-false (test x) (Some x) (find test xs) (fails zero x refl) ∙ none_found test xs (λ k y at. fails (suc k) y at)
 
 -- the items before the first that passes don't
 earlier_fails : {X : Type 0} (test : X → Bool) (xs : List X) (k : ℕ) (x : X) → slice_get xs k ≡ Some x → k < position_or_len test xs → test x ≡ false

@@ -1,10 +1,8 @@
 -- A set that is made of ascending slots has just these slots.
-use Rattle.std.proofs.Common.{◌≡◌, ℕ, ℤ, pos, negsuc, zero, suc, ◌+◌, ◌^◌, ◌<◌, ◌≤◌, ◌≢◌, ◌==◌, Bool, true, false, ◌&&◌, ◌||◌, List, [], ◌∷◌, fold, filter, map, bit_or, int_le, int_lt, refl, sym, ap, ◌∙◌, inl, inr, arith}
+use Rattle.std.proofs.Common.{◌≡◌, ℕ, ℤ, pos, negsuc, zero, suc, ◌+◌, ◌^◌, ◌<◌, ◌≤◌, ◌==◌, Bool, true, false, ◌&&◌, ◌||◌, List, [], ◌∷◌, fold, filter, map, bit_or, int_le, int_lt, refl, sym, ap, ◌∙◌, inl, inr, arith}
 use Rattle.std.specs.Prelude.{nat_abs, ⊤}
 use Rattle.std.specs.Int.{bit_at}
-use Rattle.std.specs.List.{range_with_len, list_all}
-use Rattle.std.proofs.Math.Pow.{pow-lt}
-use Rattle.std.proofs.lemmas.Nat.{or_lt, pow_pos}
+use Rattle.std.specs.List.{range_with_len}
 use Rattle.std.proofs.lemmas.Bool.{and_parts, ltb-true, cases_lt, cases_eq, eq-eqb, ne_eqb}
 use Rattle.std.proofs.lemmas.Bool.Decides.{nat_tests}
 use Rattle.std.proofs.lemmas.Nat.Bits.{bit_at_or, bit_at-pow_same, bit_at-pow_other, bit_at-lt, bit_at-zero}
@@ -90,20 +88,3 @@ slots_of-rises slots rises = picked (λ k. bit_at (slot_set slots) k == 1) 0 16 
 pub below_limit : (number : ℤ) (limit : ℕ) → (int_le (pos 0) number && int_lt number (pos limit)) ≡ true → nat_abs number < limit
 below_limit (pos n) limit within = ltb-true n limit (and_parts (int_le (pos 0) (pos n)) (int_lt (pos n) (pos limit)) within).1
 below_limit (negsuc n) limit within = cc
-
--- a set of slots below a limit is below the limit's power
-joined_below : (limit set : ℕ) (slots : List ℤ) → set < 2 ^ limit → list_all (λ slot. int_le (pos 0) slot && int_lt slot (pos limit)) slots ≡ true → fold (λ set slot. bit_or set (2 ^ nat_abs slot)) set slots < 2 ^ limit
-joined_below limit set [] low all = low
-joined_below limit set (slot ∷ slots) low all =
-    let here = and_parts (int_le (pos 0) slot && int_lt slot (pos limit)) (list_all (λ slot. int_le (pos 0) slot && int_lt slot (pos limit)) slots) all in
-    let one : 2 ^ nat_abs slot < 2 ^ limit = pow-lt (below_limit slot limit here.0) in
-    joined_below limit (bit_or set (2 ^ nat_abs slot)) slots (or_lt limit set (2 ^ nat_abs slot) low one) here.1
-
-pub slot_set-below : (limit : ℕ) (slots : List ℤ) → list_all (λ slot. int_le (pos 0) slot && int_lt slot (pos limit)) slots ≡ true → slot_set slots < 2 ^ limit
-slot_set-below limit slots all = joined_below limit 0 slots (pow_pos limit) all
-
--- a set that has a slot isn't zero
-pub some_slots : (slots : ℕ) → slots_of slots ≢ [] → 0 < slots
-unfolding slots_of
-some_slots zero some = absurd (some refl)
-some_slots (suc n) some = omega arith

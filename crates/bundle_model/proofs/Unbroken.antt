@@ -1,5 +1,5 @@
 -- A bundle whose raw values break no rule is well-formed.
-use Rattle.std.proofs.Common.{◌≡◌, ◌≢◌, ℕ, ℤ, pos, negsuc, ◌+◌, ◌*◌, ◌%◌, ◌<◌, ◌≤◌, ◌+ℤ◌, ◌-ℤ◌, Bool, true, false, not, ◌&&◌, ◌||◌, List, [], ◌∷◌, map, length, All, int_le, int_lt, nat_eq, unwrap_or, Option, Some, None, refl, ap, arith}
+use Rattle.std.proofs.Common.{◌≡◌, ◌≢◌, ℕ, ℤ, pos, negsuc, ◌+◌, ◌*◌, ◌%◌, ◌^◌, ◌<◌, ◌≤◌, ◌+ℤ◌, ◌-ℤ◌, Bool, true, false, not, ◌&&◌, ◌||◌, List, [], ◌∷◌, fold, map, bit_or, length, All, int_le, int_lt, nat_eq, unwrap_or, Option, Some, None, refl, ap, arith}
 use Rattle.std.specs.Prelude.{nat_abs, if◌then◌else◌}
 use Rattle.std.specs.List.{list_any, list_all, find, IsDistinct, AllByRecursion}
 use Rattle.std.specs.Ordering.{int_eq}
@@ -8,13 +8,17 @@ use Rattle.std.proofs.lemmas.Bool.{and_parts, both_ways, not-false, ltb-true, le
 use Rattle.std.proofs.lemmas.Bool.Decides.{Decides-int_eq}
 use Rattle.std.proofs.lemmas.Int.{ints}
 use Rattle.std.proofs.lemmas.List.Elements.{All-nil, All-cons}
+use Rattle.std.proofs.lemmas.Nat.{pow_below}
+use lib.Bits.{or_lt}
 use Rattle.platform_model.specs.Limits.{is_within, is_multiple}
-use Rattle.platform_model.specs.Twins.{has_twin}
+use Rattle.soc_base.specs.Twins.{has_twin}
+use Rattle.soc_base.specs.declared.limits.TheConstants.{MOST_ROWS}
 use Rattle.platform_model.specs.declared.platform.Platform.{Platform}
-use Rattle.platform_model.proofs.Passing.{passed_over, neither}
-use Rattle.platform_model.proofs.Ranges.{no_remainder}
+use Rattle.platform_model.proofs.Laws.{passed_over, neither, no_remainder}
 use Rattle.soc_base.specs.Slots.{slots_of}
-use Rattle.bundle_model.specs.Sets.{slot_set, names, word_kind, send_kind, recv_kind, step_kind}
+use Rattle.bundle_model.specs.Sets.{slot_set, names}
+use Rattle.trace_log.specs.Kinds.{kind_text}
+use Rattle.trace_log.specs.declared.row.Kind.TheVariants.{Word, Send, Recv, Step}
 use Rattle.bundle_model.specs.Rules.{is_empty, has_tile, shares_tile, is_slot, ascends, has_slots, has_region, image_fits, has_image, has_entry, is_kind, has_trace, has_ports, breaks, first_rule}
 use Rattle.bundle_model.specs.Bundle.{part_of, pair_of, bundle_of}
 use Rattle.bundle_model.specs.WellFormed.{IsWellFormedPart, IsWellFormed}
@@ -22,7 +26,7 @@ use Rattle.bundle_model.specs.declared.raw.RawPart.{RawPart}
 use Rattle.bundle_model.specs.declared.raw.RawBundle.{RawBundle}
 use Rattle.bundle_model.specs.declared.rules.BRule.{BRule}
 use Rattle.bundle_model.specs.declared.rules.BRule.TheVariants.{B4, B5, B6, B7, B8, B9, B10, B11, B12, B13, B14}
-use Rattle.bundle_model.proofs.SlotSets.{Rises, rises_lower, slots_of-rises, below_limit, slot_set-below}
+use Rattle.bundle_model.proofs.SlotSets.{Rises, rises_lower, slots_of-rises, below_limit}
 
 -- no rule is broken
 pub record Unbroken (platform : Platform) (raw : RawBundle) : Type 0 where
@@ -87,6 +91,21 @@ for_slots platform (slot ∷ slots) kept =
     let sixteen = rises_higher 0 platform.partition_slots 16 (map nat_abs (slot ∷ slots)) platform.partition_slots_in_range.1 lowest in
     (slots_of-rises (slot ∷ slots) sixteen, (λ e. cc), rises_below 0 platform.partition_slots (map nat_abs (slot ∷ slots)) lowest)
 
+-- a set of slots of the platform has no other bit
+set_below : (platform : Platform) (slots : List ℤ) (set : ℕ) → list_all (is_slot platform) slots ≡ true → set < 2 ^ platform.partition_slots → fold (λ set slot. bit_or set (2 ^ nat_abs slot)) set slots < 2 ^ platform.partition_slots
+set_below platform [] set all below = below
+set_below platform (slot ∷ slots) set all below =
+    let here = and_parts (is_slot platform slot) (list_all (is_slot platform) slots) all in
+    let bit = pow_below (nat_abs slot) platform.partition_slots (below_limit slot platform.partition_slots here.0) in
+    set_below platform slots (bit_or set (2 ^ nat_abs slot)) here.1 (or_lt platform.partition_slots set (2 ^ nat_abs slot) below bit)
+
+slots_below : (platform : Platform) (part : RawPart) → has_slots platform part ≡ true → slot_set part.slots < 2 ^ platform.partition_slots
+slots_below platform part kept =
+    let parts = and_parts (not (is_empty part.slots) && list_all (is_slot platform) part.slots) (ascends part.slots) kept in
+    let all = and_parts (not (is_empty part.slots)) (list_all (is_slot platform) part.slots) parts.0 in
+    let some = pow_below 0 platform.partition_slots platform.partition_slots_in_range.0 in
+    set_below platform part.slots 0 all.1 (omega arith)
+
 -- the slots that a part has are those of the file
 pub slots_kept : (platform : Platform) (part : RawPart) → has_slots platform part ≡ true → (slots_of (slot_set part.slots) ≡ map nat_abs part.slots) × (map nat_abs part.slots ≢ []) × All (λ slot. slot < platform.partition_slots) (map nat_abs part.slots)
 slots_kept platform part kept = for_slots platform part.slots kept
@@ -140,8 +159,8 @@ entry_in_region (pos entry) (negsuc len) kept =
 entry_in_region (negsuc entry) (negsuc len) kept = cc
 
 -- a count of rows
-trace_kept : (trace : ℤ) → is_within trace (pos 0) (pos 4096) ≡ true → nat_abs trace ≤ 4096
-trace_kept (pos trace) kept = leb-true trace 4096 (and_parts (int_le (pos 0) (pos trace)) (int_le (pos trace) (pos 4096)) kept).1
+trace_kept : (trace : ℤ) → is_within trace (pos 0) (pos MOST_ROWS) ≡ true → nat_abs trace ≤ MOST_ROWS
+trace_kept (pos trace) kept = leb-true trace MOST_ROWS (and_parts (int_le (pos 0) (pos trace)) (int_le (pos trace) (pos MOST_ROWS)) kept).1
 trace_kept (negsuc trace) kept = cc
 
 -- a set of kinds
@@ -171,18 +190,16 @@ part_kept : (platform : Platform) (part : RawPart) → KeptPart platform part �
 part_kept platform part kept =
     let slots = slots_kept platform part kept.slots in
     let region = region_kept part.base part.len platform.mem_bytes kept.region in
-    let traced = and_parts (is_within part.trace (pos 0) (pos 4096) && list_all is_kind part.kinds) (not (has_twin bytes_eq part.kinds)) kept.trace in
-    let rows = and_parts (is_within part.trace (pos 0) (pos 4096)) (list_all is_kind part.kinds) traced.0 in
+    let traced = and_parts (is_within part.trace (pos 0) (pos MOST_ROWS) && list_all is_kind part.kinds) (not (has_twin bytes_eq part.kinds)) kept.trace in
+    let rows = and_parts (is_within part.trace (pos 0) (pos MOST_ROWS)) (list_all is_kind part.kinds) traced.0 in
     let entry = entry_in_region part.entry part.len kept.entry in
-    let listed = and_parts (not (is_empty part.slots) && list_all (is_slot platform) part.slots) (ascends part.slots) kept.slots in
-    let each = and_parts (not (is_empty part.slots)) (list_all (is_slot platform) part.slots) listed.0 in
     let some : slots_of (slot_set part.slots) ≢ [] = rw slots.0 slots.1 in
     let exist : All (λ slot. slot < platform.partition_slots) (slots_of (slot_set part.slots)) = rw slots.0 slots.2 in
     record {
       on_tile = below_limit part.tile platform.tiles kept.tile;
       some_slot = some;
       slots_exist = exist;
-      slots_fit = slot_set-below platform.partition_slots part.slots each.1;
+      slots_below = slots_below platform part kept.slots;
       base_aligned = region.base_aligned;
       len_aligned = region.len_aligned;
       least_len = region.least_len;
@@ -191,7 +208,7 @@ part_kept platform part kept =
       entry_aligned = entry.0;
       entry_inside = entry.1;
       trace_fits = trace_kept part.trace rows.0;
-      kinds_exist = kinds_below (names part.kinds word_kind) (names part.kinds send_kind) (names part.kinds recv_kind) (names part.kinds step_kind);
+      kinds_exist = kinds_below (names part.kinds (kind_text Word)) (names part.kinds (kind_text Send)) (names part.kinds (kind_text Recv)) (names part.kinds (kind_text Step));
       no_ports = none_there nat_abs part.ports (not-false (is_empty part.ports) kept.no_ports);
     }
 

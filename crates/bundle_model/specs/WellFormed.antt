@@ -3,6 +3,7 @@ use Rattle.std.specs.Prelude.{◌≡◌, ◌≢◌, ◌+◌, ◌*◌, ◌%◌, �
 use Rattle.std.specs.List.{IsDistinct}
 use Rattle.platform_model.specs.declared.platform.Platform.{Platform}
 use Rattle.soc_base.specs.Slots.{slots_of}
+use Rattle.soc_base.specs.declared.limits.TheConstants.{MOST_ROWS}
 use Rattle.bundle_model.specs.declared.bundle.Part.{Part}
 use Rattle.bundle_model.specs.declared.bundle.Bundle.{Bundle}
 
@@ -11,7 +12,7 @@ pub record IsWellFormedPart (platform : Platform) (part : Part) : Type 0 where
   pub on_tile : part.tile < platform.tiles
   pub some_slot : slots_of part.slots ≢ []
   pub slots_exist : All (λ slot. slot < platform.partition_slots) (slots_of part.slots)
-  pub slots_fit : part.slots < 2 ^ platform.partition_slots
+  pub slots_below : part.slots < 2 ^ platform.partition_slots
   pub base_aligned : part.region.base % 16 ≡ 0
   pub len_aligned : part.region.len % 16 ≡ 0
   pub least_len : 16 ≤ part.region.len
@@ -19,7 +20,7 @@ pub record IsWellFormedPart (platform : Platform) (part : Part) : Type 0 where
   pub image_fits : 4 * length part.image ≤ part.region.len
   pub entry_aligned : part.entry % 4 ≡ 0
   pub entry_inside : part.entry + 4 ≤ part.region.len
-  pub trace_fits : part.trace ≤ 4096
+  pub trace_fits : part.trace ≤ MOST_ROWS
   pub kinds_exist : part.kinds < 16
   pub no_ports : part.ports ≡ []
 
