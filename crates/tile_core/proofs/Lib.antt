@@ -1,10 +1,14 @@
 pub mod Memory
-pub mod Parts
-pub mod Turns
-pub mod Still
-pub mod Loops
-pub mod Places
+pub mod Installed
+pub mod Frames
+pub mod Sizes
+pub mod Shapes
+pub mod Holding
+pub mod Coming
+pub mod Going
 pub mod Standing
-pub mod FitLemmas
-pub mod FreshLemmas
-mod Pairs
+pub mod Sites
+pub mod Lists
+pub mod Folding
+pub mod Rooms
+pub mod Starting
