@@ -1,6 +1,6 @@
 use Rattle.std.proofs.Common.{◌≡◌, ◌<◌, ◌≤◌, true, length, rules, arith}
 use Rattle.std.specs.List.{list_all}
-use Rattle.vep_manager.specs.Small.{is_small_script}
+use Rattle.vep_manager.specs.inner.Small.{is_small_script}
 use Rattle.vep_manager.proofs.Small.{small_setup}
 use Rattle.vep_manager.proofs.tests.setup_of.Goals as goal
 
