@@ -50,9 +50,8 @@ grant_by-append setup history entry (Malformed rule) = refl
 grant_by-append setup history entry (Past horizon) = refl
 grant_by-append setup history entry (Taken resource owner free_from) = refl
 grant_by-append setup history entry (Granted label start) =
-    ap (λ (end : Option ℕ). let grant : Grant =
-        record { label = label; bundle = loaded_place setup label; start = start; end = end } in Some grant)
-        (end_in-append history entry label)
+    ap (λ (end : Option ℕ). let grant : Grant = record { label = label; bundle = loaded_place setup label;
+        start = start; end = end } in Some grant) (end_in-append history entry label)
 grant_by-append setup history entry NoLoad = refl
 grant_by-append setup history entry (Already end) = refl
 grant_by-append setup history entry (Stopped label end) = refl
@@ -80,9 +79,8 @@ last_grant setup history (Malformed rule) fresh = refl
 last_grant setup history (Past horizon) fresh = refl
 last_grant setup history (Taken resource owner free_from) fresh = refl
 last_grant setup history (Granted label start) fresh =
-    ap (λ (end : Option ℕ). let grant : Grant =
-        record { label = label; bundle = loaded_place setup label; start = start; end = end } in grant ∷ [])
-        (fresh label start refl)
+    ap (λ (end : Option ℕ). let grant : Grant = record { label = label; bundle = loaded_place setup label;
+        start = start; end = end } in grant ∷ []) (fresh label start refl)
 last_grant setup history NoLoad fresh = refl
 last_grant setup history (Already end) fresh = refl
 last_grant setup history (Stopped label end) fresh = refl

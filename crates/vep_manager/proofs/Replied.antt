@@ -52,8 +52,8 @@ next_command state entry e =
     let it = and_then (reply_at state entry.session)
         (numbered (commands_at state entry.session) (done_at state entry.session + 1)) made.0 made.1 in
     let same : made.0 ≡ entry.reply = ap (λ (x : Entry). x.reply) made.2 in
-    (it.0, record { at = sym (numbered_next (commands_at state entry.session) (done_at state entry.session))
-        ∙ it.1; replied = it.2 ∙ ap Some same })
+    (it.0, record { at = sym (numbered_next (commands_at state entry.session) (done_at state entry.session)) ∙ it.1;
+        replied = it.2 ∙ ap Some same })
 
 -- a grant that a reply opens
 pub record Opens (state : ManagerState) (limit session : ℕ) (grant : Grant) : Type 0 where
@@ -185,8 +185,8 @@ opens_of : (state : ManagerState) (limit session : ℕ) (bundle : Bundle) (start
     → IsAsked state limit session bundle start
     → first_conflict state.setup.world (grants_at state) start (resources_of state.setup.world.platform bundle) ≡ None
     → Opens state limit session
-        (record { label = label_at state session; bundle = loaded_place state.setup (label_at state session); start =
-        start; end = None })
+        (record { label = label_at state session; bundle = loaded_place state.setup (label_at state session);
+        start = start; end = None })
 opens_of state limit session bundle start asked free =
     let label : Label = label_at state session in
     let it = and_then (λ (load : LoadName). option_map (λ (named : Named). named.judged)
@@ -201,8 +201,8 @@ opens_of state limit session bundle start asked free =
     ap (bundle_at state.setup.world) place
         ∙ ap (λ (o : Option Named). option_and_then (λ (n : Named). kept_bundle n.judged) o) named.1
         ∙ ap kept_bundle named.2 in
-    let grant : Grant = record { label = label; bundle = loaded_place state.setup label; start = start; end = None }
-        in
+    let grant : Grant = record { label = label; bundle = loaded_place state.setup label; start = start;
+        end = None } in
     let held : grant_resources state.setup.world grant ≡ resources_of state.setup.world.platform bundle =
         ap (λ (o : Option Bundle). option_map_or (resources_of state.setup.world.platform) o []) kept in
     let same : load ≡ (let l : LoadName = record { label = label; bundle = loaded_place state.setup label } in l) =
@@ -402,9 +402,9 @@ some_next : (state : ManagerState) (session : ℕ)
         (slice_get (commands_at state session) (done_at state session)))
 unfolding next_entry
 some_next state session =
-    some_map (λ (r : Reply). let e : Entry =
-        record { session = session; index = done_at state session + 1; reply = r } in e)
-        (option_and_then (reply_at state session) (numbered (commands_at state session) (done_at state session + 1)))
+    some_map (λ (r : Reply). let e : Entry = record { session = session; index = done_at state session + 1;
+        reply = r } in e) (option_and_then (reply_at state session)
+        (numbered (commands_at state session) (done_at state session + 1)))
     ∙ ap (λ (o : Option Command). is_some (option_and_then (reply_at state session) o))
         (numbered_next (commands_at state session) (done_at state session))
 

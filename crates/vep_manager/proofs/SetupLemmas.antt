@@ -118,8 +118,8 @@ pub sound_world : (setup : Setup) → IsSound setup → IsSoundWorld setup.world
 unfolding loads_of
 sound_world setup sound =
     let few : length setup.loads ≤ 256 =
-        omega (arith, ap length setup.loads_named, few_loads setup.world.catalog 1 setup.scripts, sound.few_commands)
-        in
+        omega (arith, ap length setup.loads_named, few_loads setup.world.catalog 1 setup.scripts,
+        sound.few_commands) in
     record {
       catalog = sound.catalog;
       few = few;
@@ -196,8 +196,8 @@ pub script_of : (setup : Setup) (session n : ℕ) (command : Command)
 script_of setup zero n command at = cc
 script_of setup (suc s) n command at =
     let it = script_at setup (suc s) n command (numbered setup.scripts (suc s)) refl at in
-    (it.0, record { counted = omega arith; there = sym (numbered_is setup.scripts (suc s) (omega arith))
-        ∙ it.1; commands = ap (λ o. option_map_or (λ (x : Script). x.commands) o []) it.1 })
+    (it.0, record { counted = omega arith; there = sym (numbered_is setup.scripts (suc s) (omega arith)) ∙ it.1;
+        commands = ap (λ o. option_map_or (λ (x : Script). x.commands) o []) it.1 })
 
 one_loaded : {X : Type 0} (o : Option X) (xs : List X) → o ≢ None → length (cons_option o xs) ≡ suc (length xs)
 one_loaded None xs loads = absurd (loads refl)

@@ -1,5 +1,5 @@
 use Rattle.std.proofs.Common.{◌≡◌}
-use Rattle.serial_run.specs.Rounds.{IsAtTurn}
+use Rattle.serial_run.specs.inner.Rounds.{IsAtTurn}
 use Rattle.serial_run.proofs.serial.commit_all.Given as goal
 
 abbrev pub invariant-loop-round : goal.invariant-loop-round
