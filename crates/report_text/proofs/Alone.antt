@@ -32,10 +32,10 @@ use Rattle.serial_run.specs.declared.end.RunEnd.{RunEnd}
 use Rattle.serial_run.specs.Run.{EndsInStep, tiles_of}
 use Rattle.event_core.specs.Stands.{alone_part, stop_slot}
 use Rattle.report_text.specs.Rows.{part_text}
-use Rattle.report_text.specs.Report.{bundle_rows, most_rows}
-use Rattle.report_text.specs.Logs.{log_on, rows_on, line_on, HoldsAlone}
-use Rattle.vep_manager.proofs.SetupLemmas.{sound_world}
-use Rattle.vep_manager.proofs.Standing.{legal_apart, grants_of_loads}
+use Rattle.report_text.specs.inner.Room.{bundle_rows, most_rows}
+use Rattle.report_text.specs.inner.Logs.{log_on, rows_on, line_on, HoldsAlone}
+use Rattle.vep_manager.proofs.Laws.{sound_world}
+use Rattle.vep_manager.proofs.Laws.{legal_apart, grants_of_loads}
 use Rattle.event_core.proofs.Standing.{logs_are_alone}
 use Rattle.report_text.proofs.TileNumbers.{tiles_numbered}
 

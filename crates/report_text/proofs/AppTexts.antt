@@ -18,7 +18,7 @@ use Rattle.vep_manager.specs.History.{grant_by, grants_of}
 use Rattle.event_core.specs.Stands.{stop_slot}
 use Rattle.report_text.specs.Rows.{row_text, part_text}
 use Rattle.report_text.specs.Report.{app_text, IsAppText, AreAppTexts}
-use Rattle.report_text.specs.Logs.{rows_on, line_on, app_line, grants_in, HoldsAlone}
+use Rattle.report_text.specs.inner.Logs.{rows_on, line_on, app_line, grants_in, HoldsAlone}
 
 -- the first line, the merged rows and the lines of the parts are the text of an application
 pub app_text_of : (setup : Setup) (stations : List Station) (grant : Grant) (parts : List Part) (rows : List TraceRow) → (alone : HoldsAlone setup stations grant) → parts ≡ alone.bundle.parts → IsPermutation (flat_map (rows_on stations grant.label) parts) rows → IsSorted row_cmp rows → IsAppText setup grant (app_line setup grant ++ flat_map row_text rows ++ flat_map (line_on stations grant.label) parts)

@@ -5,21 +5,16 @@ use Rattle.soc_base.specs.Text.{hex_text}
 use Rattle.soc_base.specs.declared.cause.Cause.{Cause}
 use Rattle.soc_base.specs.declared.cause.Cause.TheVariants.{Illegal, Fetch, Target, Align, Access, Break}
 use Rattle.trace_log.specs.declared.row.TraceRow.{TraceRow}
-use Rattle.trace_log.specs.declared.row.Kind.{Kind}
-use Rattle.trace_log.specs.declared.row.Kind.TheVariants.{Word, Send, Recv, Step}
+use Rattle.trace_log.specs.Kinds.{kind_text}
 use Rattle.trace_log.specs.declared.row.PartEnd.{PartEnd}
 use Rattle.trace_log.specs.declared.row.PartEnd.TheVariants.{Live, Halt, Fault}
 use Rattle.alone_model.specs.declared.trace.PartTrace.{PartTrace}
 
+-- a line feed
 abbrev pub line_end : List ℕ
 line_end = 10 ∷ []
 
-abbrev pub kind_text : Kind → List ℕ
-kind_text Word = codes "word"
-kind_text Send = codes "send"
-kind_text Recv = codes "recv"
-kind_text Step = codes "step"
-
+-- the word of the cause of a fault
 abbrev pub cause_text : Cause → List ℕ
 cause_text Illegal = codes "illegal"
 cause_text Fetch = codes "fetch"

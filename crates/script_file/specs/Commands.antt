@@ -98,8 +98,8 @@ unfoldable pub script_meant : List ℕ → ℕ → Result (List Command) ScriptF
 script_meant bytes room = unless_fault (first_fault 1 (lines_of bytes)) (within_room room (commands_in_lines (lines_of bytes)))
 
 -- the answer of a reader is what the bytes mean, or want of memory
-abbrev pub ReadsScript : Result (List Command) ScriptFault → Result Script ScriptFault → Type 0
-ReadsScript meant (Ok script) = meant ≡ Ok script.commands
-ReadsScript meant (Err (Line number rule)) = meant ≡ Err (Line number rule)
-ReadsScript meant (Err TooMany) = meant ≡ Err TooMany
-ReadsScript meant (Err NoMemory) = Unit {0}
+abbrev pub AnswersMeaning : Result (List Command) ScriptFault → Result Script ScriptFault → Type 0
+AnswersMeaning meant (Ok script) = meant ≡ Ok script.commands
+AnswersMeaning meant (Err (Line number rule)) = meant ≡ Err (Line number rule)
+AnswersMeaning meant (Err TooMany) = meant ≡ Err TooMany
+AnswersMeaning meant (Err NoMemory) = Unit {0}

@@ -11,8 +11,8 @@ use Rattle.bundle_model.specs.declared.world.Named.{Named}
 use Rattle.soc_top.specs.declared.fault.TopFault.{TopFault}
 use Rattle.soc_top.specs.declared.fault.TopFault.TheVariants.{Platform as BadPlatform, ScriptTooLong, Script, Bundle as BadBundle, Absent, Read, NoMemory}
 use Rattle.soc_top.specs.Setups.{JudgesFile}
-use Rattle.soc_top.specs.Loading.{Misses}
-use Rattle.soc_top.specs.Naming.{catalog_names, IsNext, LacksCatalog, IsJudged}
+use Rattle.soc_top.specs.inner.Loading.{Misses}
+use Rattle.soc_top.specs.inner.Naming.{catalog_names, IsNext, LacksCatalog, IsJudged}
 
 there : (platform : Platform) (held : Held) (name : List ℕ) (judged : Result Bundle BRule) → JudgesFile platform held name judged → IsSome (held_at held name)
 there platform held name (Ok bundle) judges = ap is_some judges.1

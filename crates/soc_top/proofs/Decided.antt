@@ -1,18 +1,19 @@
 -- What the files of a run decide excludes what they allow, and has one status.
 use Rattle.std.proofs.Common.{◌≡◌, ℕ, ◌≤◌, ◌⊎◌, inl, inr, List, [], ◌∷◌, ◌++◌, length, Option, Some, None, Result, Ok, Err, All, IsSome, refl, sym, ap, ◌∙◌, subst, arith}
 use Rattle.std.proofs.lemmas.List.Elements.{All-head, All-tail}
+use Rattle.soc_base.specs.declared.limits.TheConstants.{MOST_COMMANDS, MOST_FILE_BYTES}
 use Rattle.platform_model.specs.declared.rules.PRule.{PRule}
 use Rattle.script_file.specs.declared.command.Command.{Command}
 use Rattle.script_file.specs.declared.rules.ScriptFault.{ScriptFault}
 use Rattle.script_file.specs.Commands.{script_meant}
 use Rattle.soc_io.specs.Counts.{Rose}
-use Rattle.soc_io.specs.Reading.{Held, held_at, file_limit}
+use Rattle.soc_io.specs.Reading.{Held, held_at}
 use Rattle.soc_top.specs.declared.request.RunWords.{RunWords}
 use Rattle.soc_top.specs.declared.fault.TopFault.{TopFault}
 use Rattle.soc_top.specs.declared.fault.TopFault.TheVariants.{Platform as BadPlatform, ScriptTooLong, Script, Bundle as BadBundle, Absent, Read, NoMemory}
 use Rattle.soc_top.specs.Faults.{fault_status}
 use Rattle.soc_top.specs.Files.{BreaksPlatform}
-use Rattle.soc_top.specs.Setups.{command_limit, HoldsScript, FaultsScript, IsLong, bundle_names, HasPlatform, IsReached, ToldFault, IsDecidedFault, AllowsRun}
+use Rattle.soc_top.specs.Setups.{HoldsScript, FaultsScript, IsLong, bundle_names, HasPlatform, IsReached, ToldFault, IsDecidedFault, AllowsRun}
 use Rattle.soc_top.proofs.Exclusive.{none_or_some, same_bytes, platform_or_rule}
 
 none_or_is_some : (file : Option (List ℕ)) → file ≡ None → IsSome file → ⊥
@@ -33,7 +34,7 @@ long_no_script held name (bytes, is, long) = record {
   there = is;
   no_script = λ commands (others, also, short, means).
       let same : bytes ≡ others = same_bytes _ bytes others is also in
-      let short_too : length bytes ≤ file_limit = rw same short in
+      let short_too : length bytes ≤ MOST_FILE_BYTES = rw same short in
       absurd (omega (arith, long, short_too));
 }
 
@@ -46,13 +47,13 @@ faulty_no_script held name fault (bytes, is, short, faulty) = record {
   there = is;
   no_script = λ commands (others, also, _, means).
       let same : bytes ≡ others = same_bytes _ bytes others is also in
-      one_meaning (script_meant bytes command_limit) commands fault faulty (rw same means);
+      one_meaning (script_meant bytes MOST_COMMANDS) commands fault faulty (rw same means);
 }
 
 one_script : (held : Held) (name : List ℕ) (commands others : List Command) → HoldsScript held name commands → HoldsScript held name others → commands ≡ others
 one_script held name commands others (bytes, is, _, means) (other_bytes, also, _, too) =
     let same : bytes ≡ other_bytes = same_bytes _ bytes other_bytes is also in
-    let meant : script_meant bytes command_limit ≡ Ok others = rw same too in
+    let meant : script_meant bytes MOST_COMMANDS ≡ Ok others = rw same too in
     cc
 
 -- an absent file that is read: no file before it refuses

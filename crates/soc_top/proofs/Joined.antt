@@ -9,11 +9,11 @@ use Rattle.soc_top.specs.declared.fault.TopFault.{TopFault}
 use Rattle.soc_top.specs.declared.fault.TopFault.TheVariants.{Platform as BadPlatform, ScriptTooLong, Script, Bundle as BadBundle, Absent, Read, NoMemory}
 use Rattle.soc_top.specs.declared.ending.Ending.{Ending}
 use Rattle.soc_top.specs.declared.ending.Ending.TheVariants.{Done, Unwritten, Refused}
-use Rattle.soc_top.specs.Exchange.{exchanged}
+use Rattle.soc_top.proofs.Exchanges.{exchange_of}
 use Rattle.soc_top.specs.Setups.{bundle_names, RunFault, LoadsSetup}
-use Rattle.soc_top.specs.Run.{Reports, Ends}
-use Rattle.soc_top.specs.Loading.{ReadsPlatform, ReadsScript}
-use Rattle.soc_top.specs.Naming.{LacksCatalog}
+use Rattle.soc_top.specs.Run.{Reports, EndsRun}
+use Rattle.soc_top.specs.inner.Loading.{ReadsPlatform, ReadsScript}
+use Rattle.soc_top.specs.inner.Naming.{LacksCatalog}
 
 -- a script is refused after the platform file gave a platform
 pub script_joined : (told : Option Held) (before mid now : ℕ) (request : RunWords) (platform : Platform) (fault : TopFault) → before ≤ mid → ReadsPlatform told before mid request.platform (Ok platform) → ReadsScript told mid now request.script (Err fault) → RunFault told before now request fault
@@ -58,7 +58,7 @@ run_without_memory (Some held) before now request = tt
 run_without_memory None before now request = tt
 
 -- how a request ends, from the setup that its files gave and how its report was written
-pub reported : (told : Option Held) (read read_now : ℕ) (old new : Option (List ℕ)) (before now : ℕ) (request : RunWords) (setup : Setup) (ending : Ending) → LoadsSetup told read read_now request (Ok setup) → Reports old before new now setup ending → Ends (exchanged told read read_now old new before now) request ending
+pub reported : (told : Option Held) (read read_now : ℕ) (old new : Option (List ℕ)) (before now : ℕ) (request : RunWords) (setup : Setup) (ending : Ending) → LoadsSetup told read read_now request (Ok setup) → Reports old before new now setup ending → EndsRun (exchange_of told read read_now old new before now) request ending
 reported (Some held) read read_now old new before now request setup Done gives (text, made, written) = (text, (setup, gives, made), written)
 reported None read read_now old new before now request setup Done gives (text, made, written) = (text, tt, written)
 reported (Some held) read read_now old new before now request setup Unwritten gives (text, made, front, rose) = (text, (setup, gives, made), front, rose)

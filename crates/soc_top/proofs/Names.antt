@@ -10,7 +10,7 @@ use Rattle.bundle_model.specs.Sets.{names}
 use Rattle.script_file.specs.declared.command.Command.{Command}
 use Rattle.vep_manager.specs.Loads.{loaded_name, loaded_names}
 use Rattle.soc_top.specs.Setups.{with_name, bundle_names}
-use Rattle.soc_top.specs.Naming.{with_loaded, with_command}
+use Rattle.soc_top.specs.inner.Naming.{with_loaded, with_command}
 
 -- naming one command after another names each name once
 named_then : (known : List (List ℕ)) (found : Option (List ℕ)) (later : List (List ℕ)) → fold with_name (with_loaded known found) later ≡ fold with_name known (cons_option found later)

@@ -13,7 +13,7 @@ use Rattle.script_file.specs.declared.command.Command.{Command}
 use Rattle.script_file.specs.declared.command.Script.{Script}
 use Rattle.vep_manager.specs.Loads.{loaded_name, loaded_names, loads_from, loads_of, place_of}
 use Rattle.soc_top.specs.Setups.{bundle_names}
-use Rattle.soc_top.specs.Naming.{catalog_names}
+use Rattle.soc_top.specs.inner.Naming.{catalog_names}
 use Rattle.soc_top.proofs.Names.{named_among, few_names}
 
 -- a name of the catalog has a place in it

@@ -13,7 +13,7 @@ use Rattle.soc_top.specs.declared.ending.Ending.TheVariants.{Done, Unwritten, Re
 use Rattle.soc_top.specs.Exchange.{Exchange, Says}
 use Rattle.soc_top.specs.Faults.{fault_line, fault_status, ending_status}
 use Rattle.soc_top.specs.Setups.{GivesSetup, RunFault, IsDecidedFault, AllowsRun}
-use Rattle.soc_top.specs.Run.{ReportOf, RefusesRun, Ends, RunAnswers}
+use Rattle.soc_top.specs.Run.{ReportOf, RefusesRun, EndsRun, RunAnswers}
 use Rattle.soc_top.proofs.Catalogs.{all_there}
 use Rattle.soc_top.proofs.Decided.{undecided, as_decided, one_status}
 use Rattle.soc_top.proofs.Statuses.{at_two, at_three, at_four, at_five, at_seven, never}
@@ -60,7 +60,7 @@ script_at_three e request fault refuses is =
     ]
 
 -- how a request ends gives what its status says
-pub answers_of : (e : Exchange) (request : RunWords) (ending : Ending) → Ends e request ending → RunAnswers e request (ending_status ending)
+pub answers_of : (e : Exchange) (request : RunWords) (ending : Ending) → EndsRun e request ending → RunAnswers e request (ending_status ending)
 answers_of e request Done (text, is, written) = record {
   statuses = inl refl;
   done = λ _. (text, is, written);

@@ -19,6 +19,8 @@ use Rattle.soc_top.specs.declared.inputs.Inputs.{Inputs}
 use Rattle.soc_top.specs.declared.ending.Ending.{Ending}
 use Rattle.soc_top.specs.declared.ending.Ending.TheVariants.{Done, Unwritten, Refused}
 use Rattle.soc_top.specs.Files.{HoldsPlatform, BreaksPlatform, HoldsBundle, BreaksBundle}
+use Rattle.soc_top.specs.declared.request.Request.TheVariants.{Alone}
+use Rattle.soc_top.specs.Request.{request_of}
 use Rattle.soc_top.specs.Exchange.{Exchange, Says}
 use Rattle.soc_top.specs.Faults.{fault_line, fault_status, ending_status}
 
@@ -53,6 +55,7 @@ UntoldCause before now request (Absent name) = IsNamed request name × Rose befo
 UntoldCause before now request (Read name) = IsNamed request name × Rose before now
 UntoldCause before now request NoMemory = Unit {0}
 
+-- why a request is refused
 abbrev pub Cause : Option Held → ℕ → ℕ → AloneWords → TopFault → Type 0
 Cause (Some held) before now request fault = ToldCause held before now request fault
 Cause None before now request fault = UntoldCause before now request fault
@@ -71,6 +74,7 @@ IsDecided held request fault = ToldCause held 0 0 request fault
 abbrev pub first_slot : Platform → AloneWords → ℕ
 first_slot platform request = slot_up_of request.start platform.slot_cycles
 
+-- the slot to which it is followed
 abbrev pub last_slot : Platform → AloneWords → ℕ
 last_slot platform request = max (first_slot platform request) (slot_up_of request.budget platform.slot_cycles)
 
@@ -80,6 +84,7 @@ pub record IsAloneText (platform : Platform) (bundle : Bundle) (request : AloneW
   pub is_trace : IsTraceOf (alone_at platform bundle (first_slot platform request) (last_slot platform request)) trace
   pub is_text : text ≡ alone_text platform.slot_cycles request.bundle trace (first_slot platform request) (last_slot platform request)
 
+-- where files are told, the text is that of the trace by what they hold
 abbrev pub AloneText : Held → AloneWords → List ℕ → Type 0
 AloneText held request text =
     (platform : Platform) × (bundle : Bundle) × HoldsPlatform held request.platform platform
@@ -127,3 +132,7 @@ pub record AloneAnswers (e : Exchange) (request : AloneWords) (status : ℕ) : T
   pub decided : (held : Held) (fault : TopFault) → e.held ≡ Some held → (Rose e.read_faults e.read_faults_now → ⊥) → IsDecided held request fault → (status ≡ fault_status fault) ⊎ (status ≡ 7)
   -- and what they allow is done, where no write fails either
   pub complete : (held : Held) (platform : Platform) (bundle : Bundle) → e.held ≡ Some held → (Rose e.read_faults e.read_faults_now → ⊥) → (Rose e.write_faults e.write_faults_now → ⊥) → HoldsPlatform held request.platform platform → HoldsBundle platform held request.bundle bundle → (status ≡ 0) ⊎ (status ≡ 7)
+
+-- a status is what a request for one application may end with, where the words ask for one
+abbrev pub AnswersAlone : Exchange → List (List ℕ) → ℕ → Type 0
+AnswersAlone e words status = (request : AloneWords) → request_of words ≡ Some (Alone request) → AloneAnswers e request status

@@ -14,6 +14,8 @@ use Rattle.soc_top.specs.declared.fault.TopFault.{TopFault}
 use Rattle.soc_top.specs.declared.fault.TopFault.TheVariants.{Platform, ScriptTooLong, Script, Absent, Read, NoMemory}
 use Rattle.soc_top.specs.declared.ending.Ending.{Ending}
 use Rattle.soc_top.specs.declared.ending.Ending.TheVariants.{Done, Unwritten, Refused}
+use Rattle.soc_top.specs.declared.request.Request.TheVariants.{Run}
+use Rattle.soc_top.specs.Request.{request_of}
 use Rattle.soc_top.specs.Exchange.{Exchange, Says}
 use Rattle.soc_top.specs.Faults.{fault_line, fault_status}
 use Rattle.soc_top.specs.Setups.{GivesSetup, RunFault, IsDecidedFault, AllowsRun}
@@ -40,11 +42,11 @@ Reports old before new now setup (Refused fault) =
     (fault ≡ NoMemory) × ((failed : Bool) × Printed (fault_line fault) old before new now failed)
 
 -- how the request may end: its report is written, or a front of it where a write failed, or it is refused
-abbrev pub Ends : Exchange → RunWords → Ending → Type 0
-Ends e request Done = (text : List ℕ) × ReportOf e.held request text × Appends e.written text e.written_now
-Ends e request Unwritten =
+abbrev pub EndsRun : Exchange → RunWords → Ending → Type 0
+EndsRun e request Done = (text : List ℕ) × ReportOf e.held request text × Appends e.written text e.written_now
+EndsRun e request Unwritten =
     (text : List ℕ) × ReportOf e.held request text × AppendsFront e.written text e.written_now × Rose e.write_faults e.write_faults_now
-Ends e request (Refused fault) = RefusesRun e request fault
+EndsRun e request (Refused fault) = RefusesRun e request fault
 
 -- how the request may end with a status
 pub record RunAnswers (e : Exchange) (request : RunWords) (status : ℕ) : Type 0 where
@@ -68,3 +70,7 @@ pub record RunAnswers (e : Exchange) (request : RunWords) (status : ℕ) : Type 
   pub decided : (held : Held) (fault : TopFault) → e.held ≡ Some held → (Rose e.read_faults e.read_faults_now → ⊥) → IsDecidedFault held request fault → (status ≡ fault_status fault) ⊎ (status ≡ 7)
   -- and what they allow is done, where no write fails either
   pub complete : (held : Held) → e.held ≡ Some held → (Rose e.read_faults e.read_faults_now → ⊥) → (Rose e.write_faults e.write_faults_now → ⊥) → AllowsRun held request → (status ≡ 0) ⊎ (status ≡ 7)
+
+-- a status is what a request to run may end with, where the words ask for one
+abbrev pub AnswersRun : Exchange → List (List ℕ) → ℕ → Type 0
+AnswersRun e words status = (request : RunWords) → request_of words ≡ Some (Run request) → RunAnswers e request status

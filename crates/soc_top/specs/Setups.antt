@@ -1,8 +1,9 @@
 -- The setup that the files of a `run` give, and why there is none.
 use Rattle.std.specs.Prelude.{◌≡◌, ℕ, ◌<◌, ◌≤◌, ◌⊎◌, List, [], ◌∷◌, ◌++◌, length, map, fold, if◌then◌else◌, All, IsSome, Option, Some, None, Result, Ok, Err}
+use Rattle.soc_base.specs.declared.limits.TheConstants.{MOST_COMMANDS, MOST_FILE_BYTES}
 use Rattle.soc_base.specs.Time.{slot_up_of}
 use Rattle.soc_io.specs.Counts.{Rose}
-use Rattle.soc_io.specs.Reading.{Held, held_at, file_limit}
+use Rattle.soc_io.specs.Reading.{Held, held_at}
 use Rattle.platform_model.specs.declared.platform.Platform.{Platform}
 use Rattle.bundle_model.specs.declared.bundle.Bundle.{Bundle}
 use Rattle.bundle_model.specs.declared.rules.BRule.{BRule}
@@ -18,29 +19,26 @@ use Rattle.soc_top.specs.declared.fault.TopFault.{TopFault}
 use Rattle.soc_top.specs.declared.fault.TopFault.TheVariants.{Platform as BadPlatform, ScriptTooLong, Script, Bundle as BadBundle, Absent, Read, NoMemory}
 use Rattle.soc_top.specs.Files.{HoldsPlatform, BreaksPlatform, HoldsBundle, BreaksBundle}
 
--- the most commands that the scripts of a run have in all
-abbrev pub command_limit : ℕ
-command_limit = 256
-
 -- the file of this name is a script of these commands
 abbrev pub HoldsScript : Held → List ℕ → List Command → Type 0
 HoldsScript held name commands =
-    (bytes : List ℕ) × (held_at held name ≡ Some bytes) × (length bytes ≤ file_limit) × (script_meant bytes command_limit ≡ Ok commands)
+    (bytes : List ℕ) × (held_at held name ≡ Some bytes) × (length bytes ≤ MOST_FILE_BYTES) × (script_meant bytes MOST_COMMANDS ≡ Ok commands)
 
 -- the file of this name has this as its first fault as a script
 abbrev pub FaultsScript : Held → List ℕ → ScriptFault → Type 0
 FaultsScript held name fault =
-    (bytes : List ℕ) × (held_at held name ≡ Some bytes) × (length bytes ≤ file_limit) × (script_meant bytes command_limit ≡ Err fault)
+    (bytes : List ℕ) × (held_at held name ≡ Some bytes) × (length bytes ≤ MOST_FILE_BYTES) × (script_meant bytes MOST_COMMANDS ≡ Err fault)
 
 -- the file of this name is longer than files may be
 abbrev pub IsLong : Held → List ℕ → Type 0
-IsLong held name = (bytes : List ℕ) × (held_at held name ≡ Some bytes) × (file_limit < length bytes)
+IsLong held name = (bytes : List ℕ) × (held_at held name ≡ Some bytes) × (MOST_FILE_BYTES < length bytes)
 
 -- the bundle that the file of this name gives for the platform, or the least rule that it breaks
 abbrev pub JudgesFile : Platform → Held → List ℕ → Result Bundle BRule → Type 0
 JudgesFile platform held name (Ok bundle) = HoldsBundle platform held name bundle
 JudgesFile platform held name (Err rule) = BreaksBundle platform held name rule
 
+-- the names with one more, unless it is among them
 abbrev pub with_name : List (List ℕ) → List ℕ → List (List ℕ)
 with_name known name = if names known name then known else known ++ name ∷ []
 

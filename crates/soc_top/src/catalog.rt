@@ -4,8 +4,8 @@ ghost use Rattle.std.specs.Prelude.{◌≡◌, ◌≤◌, ◌++◌, ◌∷◌, [
 ghost use Rattle.bundle_model.specs.Sets.{names};
 ghost use Rattle.bundle_model.specs.WellFormed.{IsWellFormed};
 ghost use Rattle.soc_top.specs.Setups.{with_name, bundle_names};
-ghost use Rattle.soc_top.specs.Loading.{Misses};
-ghost use Rattle.soc_top.specs.Naming.{with_command, catalog_names, LacksCatalog, IsJudged};
+ghost use Rattle.soc_top.specs.inner.Loading.{Misses};
+ghost use Rattle.soc_top.specs.inner.Naming.{with_command, catalog_names, LacksCatalog, IsJudged};
 
 use crate::fault::TopFault;
 use crate::file::load_bundle;
@@ -39,7 +39,7 @@ fn add_named(alloc: Global, known: &mut Vec<Text>, command: &Command) -> Result<
 {
     match command {
         Command::Load { name, .. } => add_name(alloc, known, name),
-        _ => Ok(()),
+        Command::Stop { .. } | Command::Until { .. } => Ok(()),
     }
 }
 

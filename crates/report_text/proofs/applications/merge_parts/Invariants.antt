@@ -2,7 +2,7 @@ use Rattle.std.proofs.Common.{◌≡◌, take, vec_capacity}
 use Rattle.std.specs.List.{flat_map}
 use Rattle.std.specs.List.Sorted.{IsSorted, IsPermutation}
 use Rattle.trace_log.specs.Rows.{row_cmp}
-use Rattle.report_text.specs.Logs.{rows_on}
+use Rattle.report_text.specs.inner.Logs.{rows_on}
 use Rattle.report_text.proofs.applications.merge_parts.Given as goal
 
 abbrev pub invariant-loop-part : goal.invariant-loop-part

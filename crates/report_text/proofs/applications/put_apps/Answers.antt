@@ -1,5 +1,5 @@
 use Rattle.std.proofs.Common.{rules, arith, [], ◌++◌, sym}
-use Rattle.report_text.specs.Logs.{HoldsAlone}
+use Rattle.report_text.specs.inner.Logs.{HoldsAlone}
 use Rattle.report_text.proofs.AppTexts.{concat-append, granted_at, apps_none, apps_more, apps_all}
 use Rattle.report_text.proofs.Prints.{prints_none, prints_then, prints_same}
 use Rattle.report_text.proofs.applications.put_apps.Goals as goal

@@ -1,5 +1,5 @@
 use Rattle.std.proofs.Common.{◌≡◌, take, max, map, fold}
-use Rattle.report_text.specs.Report.{bundle_rows}
+use Rattle.report_text.specs.inner.Room.{bundle_rows}
 use Rattle.report_text.proofs.room.most_room.Given as goal
 
 abbrev pub invariant-loop-named : goal.invariant-loop-named

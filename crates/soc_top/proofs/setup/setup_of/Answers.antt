@@ -1,5 +1,6 @@
 use Rattle.std.proofs.Common.{◌≡◌, ◌≤◌, [], ◌∷◌, length, ◌∙◌, arith}
 use Rattle.std.proofs.lemmas.List.Elements.{All-nil, All-cons}
+use Rattle.soc_base.specs.declared.limits.TheConstants.{MOST_COMMANDS}
 use Rattle.script_file.specs.declared.command.Script.{Script}
 use Rattle.vep_manager.specs.Loads.{loads_of}
 use Rattle.soc_top.proofs.Placing.{few_bundles, loads_known}
@@ -8,9 +9,9 @@ use Rattle.soc_top.proofs.setup.setup_of.Goals as goal
 
 pub named_loads-requires : goal.named_loads-requires
 named_loads-requires c =
-    let few = few_bundles c.args.catalog.items c.args.script.commands 256 c.requires.names c.requires.few in
+    let few = few_bundles c.args.catalog.items c.args.script.commands MOST_COMMANDS c.requires.names c.requires.few in
     let one : c.as_slice-2.result.now ≡ c.args.script ∷ [] = c.as_slice-2.ensures ∙ c.in_ok-scripts.ensures in
-    let IsShort = λ (script : Script). length script.commands ≤ 256 in
+    let IsShort = λ (script : Script). length script.commands ≤ MOST_COMMANDS in
     record {
       catalog = rw c.as_slice.ensures.value (omega arith);
       scripts = rw one (omega arith);
