@@ -10,16 +10,25 @@ GoesOn more mid between stopped new now failed =
     → Printed text old before mid between stopped → Printed (text ++ more) old before new now failed
 
 -- one text and then another
-pub prints_then : (one other : List ℕ) (mid : Option (List ℕ)) (between : ℕ) (stopped : Bool) (late : Option (List ℕ)) (later : ℕ) (over : Bool) (new : Option (List ℕ)) (now : ℕ) (failed : Bool) → GoesOn one mid between stopped late later over → GoesOn other late later over new now failed → GoesOn (one ++ other) mid between stopped new now failed
+pub prints_then : (one other : List ℕ) (mid : Option (List ℕ)) (between : ℕ) (stopped : Bool) (late : Option (List ℕ))
+    (later : ℕ) (over : Bool) (new : Option (List ℕ)) (now : ℕ) (failed : Bool)
+    → GoesOn one mid between stopped late later over → GoesOn other late later over new now failed
+    → GoesOn (one ++ other) mid between stopped new now failed
 prints_then one other mid between stopped late later over new now failed first next =
-    λ text old before so_far. let P : List ℕ → Type 0 = λ t. Printed t old before new now failed in subst P (append_assoc text one other) (next (text ++ one) old before (first text old before so_far))
+    λ text old before so_far. let P : List ℕ → Type 0 =
+        λ t. Printed t old before new now failed in subst P (append_assoc text one other)
+        (next (text ++ one) old before (first text old before so_far))
 
 -- the same text
-pub prints_same : (one other : List ℕ) (mid : Option (List ℕ)) (between : ℕ) (stopped : Bool) (new : Option (List ℕ)) (now : ℕ) (failed : Bool) → one ≡ other → GoesOn one mid between stopped new now failed → GoesOn other mid between stopped new now failed
+pub prints_same : (one other : List ℕ) (mid : Option (List ℕ)) (between : ℕ) (stopped : Bool) (new : Option (List ℕ))
+    (now : ℕ) (failed : Bool)
+    → one ≡ other → GoesOn one mid between stopped new now failed → GoesOn other mid between stopped new now failed
 prints_same one other mid between stopped new now failed e prints =
     let P : List ℕ → Type 0 = λ t. GoesOn t mid between stopped new now failed in subst P e prints
 
 -- no text
-pub prints_none : (mid : Option (List ℕ)) (between : ℕ) (stopped : Bool) → GoesOn [] mid between stopped mid between stopped
+pub prints_none : (mid : Option (List ℕ)) (between : ℕ) (stopped : Bool)
+    → GoesOn [] mid between stopped mid between stopped
 prints_none mid between stopped =
-    λ text old before so_far. let P : List ℕ → Type 0 = λ t. Printed t old before mid between stopped in subst P (sym (append-nil text)) so_far
+    λ text old before so_far. let P : List ℕ → Type 0 =
+        λ t. Printed t old before mid between stopped in subst P (sym (append-nil text)) so_far

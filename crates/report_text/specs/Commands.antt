@@ -47,16 +47,20 @@ unfoldable pub reply_text : ℕ → Reply → List ℕ
 reply_text slot_cycles (Malformed rule) = codes "malformed " ++ bundle_rule_text rule
 reply_text slot_cycles (Past horizon) = codes "past " ++ decimal (horizon * slot_cycles)
 reply_text slot_cycles (Taken resource owner free_from) =
-    codes "taken " ++ resource_text resource ++ codes " by " ++ label_text owner ++ codes " free " ++ free_text slot_cycles free_from
-reply_text slot_cycles (Granted label start) = codes "granted " ++ label_text label ++ codes " at " ++ decimal (start * slot_cycles)
+    codes "taken " ++ resource_text resource ++ codes " by " ++ label_text owner ++ codes " free "
+        ++ free_text slot_cycles free_from
+reply_text slot_cycles (Granted label start) =
+    codes "granted " ++ label_text label ++ codes " at " ++ decimal (start * slot_cycles)
 reply_text slot_cycles NoLoad = codes "no load"
 reply_text slot_cycles (Already end) = codes "already " ++ decimal (end * slot_cycles)
-reply_text slot_cycles (Stopped label end) = codes "stopped " ++ label_text label ++ codes " at " ++ decimal (end * slot_cycles)
+reply_text slot_cycles (Stopped label end) =
+    codes "stopped " ++ label_text label ++ codes " at " ++ decimal (end * slot_cycles)
 reply_text slot_cycles (Horizon horizon) = codes "horizon " ++ decimal (horizon * slot_cycles)
 
 -- the command that an entry is of
 abbrev pub entry_command_text : Setup → Entry → List ℕ
-entry_command_text setup entry = option_map_or command_text (numbered (commands_of setup entry.session) entry.index) (codes "")
+entry_command_text setup entry =
+    option_map_or command_text (numbered (commands_of setup entry.session) entry.index) (codes "")
 
 -- an entry of the history: session, number, command and reply, as in
 -- `command 1 1 load a.toml at 1: granted 1.1 at 8`

@@ -56,7 +56,8 @@ budget_line setup = codes "budget " ++ decimal (setup.budget * setup.world.platf
 
 -- the report with these texts of applications
 unfoldable pub report_text : Setup → List Entry → List (List ℕ) → List ℕ
-report_text setup history apps = (form_line ++ budget_line setup) ++ flat_map (entry_text setup) history ++ concat apps ++ end_line
+report_text setup history apps =
+    (form_line ++ budget_line setup) ++ flat_map (entry_text setup) history ++ concat apps ++ end_line
 
 -- The report of a history: each entry with its command and its reply, and then each granted application
 -- with the trace that it has alone.

@@ -26,7 +26,8 @@ cause_text Break = codes "break"
 -- a row: its cycle, tile, kind and value, as in `77 0 word 00000007`
 unfoldable pub row_text : TraceRow → List ℕ
 row_text row =
-    decimal row.cycle ++ codes " " ++ decimal row.tile ++ codes " " ++ kind_text row.kind ++ codes " " ++ hex_text row.value ++ line_end
+    decimal row.cycle ++ codes " " ++ decimal row.tile ++ codes " " ++ kind_text row.kind ++ codes " "
+        ++ hex_text row.value ++ line_end
 
 -- how a part stands, as in `halt 00000000 at 78`
 abbrev pub end_text : PartEnd → List ℕ
@@ -36,4 +37,5 @@ end_text (Fault cause cycle) = codes "fault " ++ cause_text cause ++ codes " at 
 
 -- a part: its tile, how it stands and how many rows were cut, as in `part 0 live cut 0`
 unfoldable pub part_text : PartTrace → List ℕ
-part_text part = codes "part " ++ decimal part.tile ++ codes " " ++ end_text part.end ++ codes " cut " ++ decimal part.cut ++ line_end
+part_text part = codes "part " ++ decimal part.tile ++ codes " " ++ end_text part.end ++ codes " cut "
+    ++ decimal part.cut ++ line_end

@@ -32,4 +32,5 @@ pub record CanFinish (world : World) (schedule : Schedule) (until : ℕ) (machin
 
 -- the tiles are those of the machine after the grants of a history, in step at the end of the run
 abbrev pub EndsInStep : Setup → RunEnd → Type 0
-EndsInStep setup end = tiles_of end.stations ≡ (lockstep setup.world setup.loads (grants_of setup end.history) setup.budget).tiles
+EndsInStep setup end =
+    tiles_of end.stations ≡ (lockstep setup.world setup.loads (grants_of setup end.history) setup.budget).tiles

@@ -6,8 +6,8 @@ ghost use Rattle.bundle_model.specs.declared.rules.BRule.{BRule};
 ghost use Rattle.bundle_model.specs.World.{IsSoundCatalog};
 ghost use Rattle.bundle_model.specs.WellFormed.{IsWellFormed};
 ghost use Rattle.script_file.specs.declared.command.Command.{Command};
-ghost use Rattle.script_file.specs.declared.command.Script.{Script};
 ghost use Rattle.vep_manager.specs.Setup.{IsSound};
+ghost use Rattle.serial_run.specs.inner.Sample.{sample_file, sample_scripts};
 
 use crate::{RunEnd, serial_all};
 use bundle_model::{Bundle, LoadName, Named, RawBundle, RawPart, Resource, World, check};
@@ -53,7 +53,7 @@ fn bundle(alloc: Global, platform: &Platform) -> Result<Bundle, Fail>
 // The platform and one bundle file.
 fn world(alloc: Global) -> Result<World, Fail>
     ensures sound { IfOk result IsSoundCatalog }
-    ensures one { IfOk result (λ world. (judged : Result Bundle BRule) × (world.catalog ≡ record { name = codes "app"; judged = judged } ∷ [])) }
+    ensures one { IfOk result (λ world. (judged : Result Bundle BRule) × (world.catalog ≡ sample_file judged ∷ [])) }
 {
     let platform = Platform::plain(alloc)?;
     let named = Named {
@@ -83,7 +83,7 @@ fn script(commands: Vec<Command>) -> Script
 
 // One session loads and has no more to say, one has nothing to stop, and one wants what is taken.
 fn scripts(alloc: Global) -> Result<Items<Script>, Fail>
-    ensures { IfOk result (λ scripts. scripts ≡ (record { commands = Command.Load (codes "app") 0 ∷ [] }) ∷ (record { commands = Command.Until 16 ∷ Command.Stop 1 0 ∷ Command.Until 24 ∷ [] }) ∷ (record { commands = Command.Load (codes "app") 8 ∷ Command.Until 80 ∷ [] }) ∷ []) }
+    ensures { IfOk result (λ scripts. scripts ≡ sample_scripts) }
 {
     let first = script(vec![in alloc; load(alloc, 0)?]?);
     let stop = Command::Stop { load: 1, cycle: 0 };

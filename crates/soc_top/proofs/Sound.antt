@@ -10,7 +10,9 @@ use Rattle.vep_manager.specs.Setup.{IsSound, stated_cycle}
 abbrev InTime : Script → Type 0
 InTime script = All (λ command. stated_cycle command ≤ LAST_CYCLE) script.commands
 
-pub sound_setup : (setup : Setup) (script : Script) → IsSoundCatalog setup.world → setup.scripts ≡ script ∷ [] → length script.commands ≤ MOST_COMMANDS → All (λ command. stated_cycle command ≤ LAST_CYCLE) script.commands → setup.budget * setup.world.platform.slot_cycles ≤ LAST_CYCLE → IsSound setup
+pub sound_setup : (setup : Setup) (script : Script) → IsSoundCatalog setup.world → setup.scripts ≡ script ∷ []
+    → length script.commands ≤ MOST_COMMANDS → All (λ command. stated_cycle command ≤ LAST_CYCLE) script.commands
+    → setup.budget * setup.world.platform.slot_cycles ≤ LAST_CYCLE → IsSound setup
 sound_setup setup script catalog one few cycles budget = record {
   catalog = catalog;
   some_script = rw one (omega arith);

@@ -15,7 +15,8 @@ pub record Exchange : Type 0 where
   pub write_faults_now : ℕ
 
 -- what files and a sink tell, by what their traits tell of them, before a call and after it
-abbrev pub exchanged : {F S : Type 0} → (F → Option Held) → (F → ℕ) → (S → Option (List ℕ)) → (S → ℕ) → F → F → S → S → Exchange
+abbrev pub exchanged : {F S : Type 0} → (F → Option Held) → (F → ℕ) → (S → Option (List ℕ)) → (S → ℕ) → F → F → S → S
+    → Exchange
 exchanged holds read_faults written write_faults files files_now sink sink_now = record {
   held = holds files;
   read_faults = read_faults files;
@@ -32,4 +33,5 @@ Says e text = (failed : Bool) × Printed text e.written e.write_faults e.written
 
 -- the same of a sink, by what its trait tells of it before a call and after it
 abbrev pub SaysText : {S : Type 0} → (S → Option (List ℕ)) → (S → ℕ) → S → S → List ℕ → Type 0
-SaysText written faults old new text = (failed : Bool) × Printed text (written old) (faults old) (written new) (faults new) failed
+SaysText written faults old new text =
+    (failed : Bool) × Printed text (written old) (faults old) (written new) (faults new) failed

@@ -19,7 +19,8 @@ cycles_of word = number_read word LAST_STATED_CYCLE
 
 -- the `alone` of these words, where both cycles could be read
 abbrev pub alone_of : List ℕ → List ℕ → Result ℕ NumFault → Result ℕ NumFault → Option Request
-alone_of platform bundle (Ok start) (Ok budget) = Some (Alone (record { platform = platform; bundle = bundle; start = start; budget = budget }))
+alone_of platform bundle (Ok start) (Ok budget) =
+    Some (Alone (record { platform = platform; bundle = bundle; start = start; budget = budget }))
 alone_of platform bundle (Ok start) (Err fault) = None
 alone_of platform bundle (Err fault) budget = None
 
@@ -30,7 +31,8 @@ run_of platform (Err fault) script = None
 
 -- what five words ask for of which the first is `alone`
 abbrev pub alone_asked : List (List ℕ) → Option Request
-alone_asked words = alone_of (word_at words 1) (word_at words 2) (cycles_of (word_at words 3)) (cycles_of (word_at words 4))
+alone_asked words = alone_of (word_at words 1) (word_at words 2) (cycles_of (word_at words 3))
+    (cycles_of (word_at words 4))
 
 -- what four words ask for of which the first is `run`
 abbrev pub run_asked : List (List ℕ) → Option Request

@@ -22,12 +22,14 @@ use Rattle.soc_top.specs.Files.{HoldsPlatform, BreaksPlatform, HoldsBundle, Brea
 -- the file of this name is a script of these commands
 abbrev pub HoldsScript : Held → List ℕ → List Command → Type 0
 HoldsScript held name commands =
-    (bytes : List ℕ) × (held_at held name ≡ Some bytes) × (length bytes ≤ MOST_FILE_BYTES) × (script_meant bytes MOST_COMMANDS ≡ Ok commands)
+    (bytes : List ℕ) × (held_at held name ≡ Some bytes) × (length bytes ≤ MOST_FILE_BYTES)
+        × (script_meant bytes MOST_COMMANDS ≡ Ok commands)
 
 -- the file of this name has this as its first fault as a script
 abbrev pub FaultsScript : Held → List ℕ → ScriptFault → Type 0
 FaultsScript held name fault =
-    (bytes : List ℕ) × (held_at held name ≡ Some bytes) × (length bytes ≤ MOST_FILE_BYTES) × (script_meant bytes MOST_COMMANDS ≡ Err fault)
+    (bytes : List ℕ) × (held_at held name ≡ Some bytes) × (length bytes ≤ MOST_FILE_BYTES)
+        × (script_meant bytes MOST_COMMANDS ≡ Err fault)
 
 -- the file of this name is longer than files may be
 abbrev pub IsLong : Held → List ℕ → Type 0
@@ -70,20 +72,25 @@ abbrev pub ReachesBundle : Held → RunWords → List ℕ → Type 0
 ReachesBundle held request name =
     HasPlatform held request
     × ((commands : List Command) × HoldsScript held request.script commands
-    × ((before : List (List ℕ)) × ((after : List (List ℕ)) × (bundle_names commands ≡ before ++ name ∷ after) × All (λ earlier. IsSome (held_at held earlier)) before)))
+    × ((before : List (List ℕ))
+        × ((after : List (List ℕ)) × (bundle_names commands ≡ before ++ name ∷ after)
+        × All (λ earlier. IsSome (held_at held earlier)) before)))
 
 -- The files of a request are read in this order: the platform, the script, and each bundle in the order
 -- of its first naming; the platform and the script are judged when they were read. The file of this name
 -- is read, since no event before refuses the request.
 abbrev pub IsReached : Held → RunWords → List ℕ → Type 0
 IsReached held request name =
-    (name ≡ request.platform) ⊎ (((name ≡ request.script) × HasPlatform held request) ⊎ ReachesBundle held request name)
+    (name ≡ request.platform) ⊎
+        (((name ≡ request.script) × HasPlatform held request) ⊎ ReachesBundle held request name)
 
 -- Where files are told, the request is refused by the first event that refuses it, and this is why.
 abbrev pub ToldFault : Held → ℕ → ℕ → RunWords → TopFault → Type 0
 ToldFault held before now request (BadPlatform rule) = BreaksPlatform held request.platform rule
-ToldFault held before now request (ScriptTooLong name) = (name ≡ request.script) × HasPlatform held request × IsLong held name
-ToldFault held before now request (Script name fault) = (name ≡ request.script) × HasPlatform held request × FaultsScript held name fault
+ToldFault held before now request (ScriptTooLong name) =
+    (name ≡ request.script) × HasPlatform held request × IsLong held name
+ToldFault held before now request (Script name fault) =
+    (name ≡ request.script) × HasPlatform held request × FaultsScript held name fault
 ToldFault held before now request (BadBundle name rule) = ⊥
 ToldFault held before now request (Absent name) = IsReached held request name × (held_at held name ≡ None)
 ToldFault held before now request (Read name) = IsReached held request name × Rose before now
@@ -106,6 +113,7 @@ UntoldFault before now request (Absent name) = Rose before now
 UntoldFault before now request (Read name) = Rose before now
 UntoldFault before now request NoMemory = Unit {0}
 
+-- why the request is refused, whether files are told or not
 abbrev pub RunFault : Option Held → ℕ → ℕ → RunWords → TopFault → Type 0
 RunFault (Some held) before now request fault = ToldFault held before now request fault
 RunFault None before now request fault = UntoldFault before now request fault
@@ -126,4 +134,5 @@ IsDecidedFault held request fault = ToldFault held 0 0 request fault
 abbrev pub AllowsRun : Held → RunWords → Type 0
 AllowsRun held request =
     HasPlatform held request
-    × ((commands : List Command) × HoldsScript held request.script commands × All (λ name. IsSome (held_at held name)) (bundle_names commands))
+    × ((commands : List Command) × HoldsScript held request.script commands
+        × All (λ name. IsSome (held_at held name)) (bundle_names commands))

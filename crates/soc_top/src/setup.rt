@@ -2,11 +2,10 @@
 
 ghost use Rattle.std.specs.Prelude.{◌≡◌, ◌*◌, ◌≤◌, ◌∷◌, [], length, All, IfOk, IfErr};
 ghost use Rattle.soc_base.specs.Time.{slot_up_of};
-ghost use Rattle.bundle_model.specs.WellFormed.{IsWellFormed};
 ghost use Rattle.vep_manager.specs.Setup.{IsSound, stated_cycle};
 ghost use Rattle.soc_top.specs.Request.{IsRunInForm};
 ghost use Rattle.soc_top.specs.Setups.{bundle_names, LoadsSetup};
-ghost use Rattle.soc_top.specs.inner.Naming.{catalog_names, IsJudged, LacksCatalog};
+ghost use Rattle.soc_top.specs.inner.Naming.{catalog_names, AreWellFormed, IsJudged, LacksCatalog};
 
 use crate::catalog::{bundle_names, read_catalog};
 use crate::fault::TopFault;
@@ -47,7 +46,7 @@ fn setup_of(
     budget: u64,
 ) -> Result<Setup, NoMemory>
     requires names { catalog_names catalog.items ≡ bundle_names script.commands }
-    requires sound { All (λ named. IfOk named.judged (IsWellFormed platform)) catalog.items }
+    requires sound { AreWellFormed platform catalog.items }
     requires few { length script.commands ≤ MOST_COMMANDS }
     requires cycles { All (λ command. stated_cycle command ≤ LAST_CYCLE) script.commands }
     requires budget { budget ≤ LAST_STATED_CYCLE }
@@ -81,7 +80,7 @@ fn catalog_of<F: Files>(
     ensures counted { F.faults files.old ≤ F.faults files.new }
     ensures names { IfOk result (λ catalog. catalog_names catalog.items ≡ bundle_names script.now.commands) }
     ensures judged { IfOk result (λ catalog. IsJudged (F.holds files.old) platform.now catalog.items) }
-    ensures sound { IfOk result (λ catalog. All (λ named. IfOk named.judged (IsWellFormed platform.now)) catalog.items) }
+    ensures sound { IfOk result (λ catalog. AreWellFormed platform.now catalog.items) }
     ensures lacks { IfErr result (LacksCatalog (F.holds files.old) (F.faults files.old) (F.faults files.new) (bundle_names script.now.commands)) }
 {
     match bundle_names(alloc, script) {

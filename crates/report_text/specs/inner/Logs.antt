@@ -35,7 +35,8 @@ rows_on stations label part = option_map_or (λ log. log.rows) (log_on stations 
 -- the line of a part with that log
 abbrev pub line_on : List Station → Label → Part → List ℕ
 line_on stations label part =
-    option_map_or (λ log. part_text (record { tile = part.tile; end = log.end; cut = log.cut })) (log_on stations label part) []
+    option_map_or (λ log. part_text (record { tile = part.tile; end = log.end; cut = log.cut }))
+        (log_on stations label part) []
 
 -- the grants that some entries of a history give
 unfoldable pub grants_in : Setup → List Entry → List Entry → List Grant
@@ -62,5 +63,8 @@ pub record HoldsAlone (setup : Setup) (stations : List Station) (grant : Grant) 
   pub bundle : Bundle
   pub is_bundle : bundle_at setup.world grant.bundle ≡ Some bundle
   pub fits : length (flat_map (rows_on stations grant.label) bundle.parts) ≤ most_rows setup.world
-  pub rows : flat_map (rows_on stations grant.label) bundle.parts ≡ kept_rows (alone_at setup.world.platform bundle grant.start (stop_slot setup.budget grant))
-  pub lines : flat_map (line_on stations grant.label) bundle.parts ≡ flat_map part_text (map part_trace (alone_at setup.world.platform bundle grant.start (stop_slot setup.budget grant)).parts)
+  pub rows : flat_map (rows_on stations grant.label) bundle.parts
+      ≡ kept_rows (alone_at setup.world.platform bundle grant.start (stop_slot setup.budget grant))
+  pub lines : flat_map (line_on stations grant.label) bundle.parts
+      ≡ flat_map part_text (map part_trace
+      (alone_at setup.world.platform bundle grant.start (stop_slot setup.budget grant)).parts)

@@ -9,7 +9,8 @@ use Rattle.vep_manager.specs.Legal.{IsLegal, ComesBefore}
 
 -- the entry comes before the turn of a session, after so many whole rounds
 abbrev pub ComesBeforeTurn : ℕ → ℕ → Entry → Type 0
-ComesBeforeTurn rounds session entry = (entry.index < rounds + 1) ⊎ ((entry.index ≡ rounds + 1) × (entry.session < session))
+ComesBeforeTurn rounds session entry =
+    (entry.index < rounds + 1) ⊎ ((entry.index ≡ rounds + 1) × (entry.session < session))
 
 -- of a session the first commands stand in the history, one for each turn that it had, as far as it has any
 abbrev pub IsCounted : Setup → ℕ → List Entry → ℕ → Type 0
@@ -32,4 +33,5 @@ TakesTurn session old new =
 
 -- a manager at the turn of the first session is then there again, a round later
 abbrev pub EndsRound : ManagerState → ManagerState → Type 0
-EndsRound old new = (rounds : ℕ) → IsAtTurn old.setup rounds 1 old.history → IsAtTurn new.setup (rounds + 1) 1 new.history
+EndsRound old new = (rounds : ℕ) → IsAtTurn old.setup rounds 1 old.history
+    → IsAtTurn new.setup (rounds + 1) 1 new.history

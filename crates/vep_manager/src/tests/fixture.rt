@@ -196,7 +196,7 @@ fn check_replies<A: Abort>(rt: &A, manager: &mut Manager<'_>, steps: &[(u8, Repl
 
 /// Checks the replies to all commands, then the numbers of entries and grants, and that the horizon
 /// is the budget.
-fn check_run<A: Abort>(
+pub fn check_run<A: Abort>(
     rt: &A,
     alloc: Global,
     setup: &Setup,

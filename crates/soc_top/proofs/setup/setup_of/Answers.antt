@@ -21,12 +21,15 @@ named_loads-requires c =
 pub invariant_of-result : goal.invariant_of-result
 invariant_of-result c =
     let one : c.as_slice-2.result.now ≡ c.args.script ∷ [] = c.as_slice-2.ensures ∙ c.in_ok-scripts.ensures in
-    let made : c.from_vec-loads.result ≡ loads_of c.args.catalog.items (c.args.script ∷ []) = c.from_vec-loads.ensures ∙ rw (c.as_slice.ensures.value, one) at c.in_ok-loads.ensures in
+    let made : c.from_vec-loads.result ≡ loads_of c.args.catalog.items (c.args.script ∷ []) =
+        c.from_vec-loads.ensures ∙ rw (c.as_slice.ensures.value, one) at c.in_ok-loads.ensures in
     record {
       loads_named = rw (c.from_vec-catalog.ensures, c.in_ok-scripts.ensures) made;
-      loads_known = loads_known c.args.catalog.items c.args.script c.from_vec-catalog.result c.in_ok-scripts.scripts c.from_vec-loads.result c.from_vec-catalog.ensures c.in_ok-scripts.ensures made c.requires.names;
+      loads_known = loads_known c.args.catalog.items c.args.script c.from_vec-catalog.result c.in_ok-scripts.scripts
+          c.from_vec-loads.result c.from_vec-catalog.ensures c.in_ok-scripts.ensures made c.requires.names;
     }
 
 pub returns-clause-sound : goal.returns-clause-sound
 returns-clause-sound c =
-    sound_setup _ c.args.script (rw c.from_vec-catalog.ensures c.requires.sound) c.in_ok-scripts.ensures c.requires.few c.requires.cycles c.end_slot-budget.ensures.bounded
+    sound_setup _ c.args.script (rw c.from_vec-catalog.ensures c.requires.sound) c.in_ok-scripts.ensures
+        c.requires.few c.requires.cycles c.end_slot-budget.ensures.bounded
