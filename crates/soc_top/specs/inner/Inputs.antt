@@ -10,6 +10,7 @@ use Rattle.soc_top.specs.Alone.{Cause}
 -- the platform and the bundle that a request names, or why there are none
 abbrev pub LoadsInputs : Option Held → ℕ → ℕ → AloneWords → Result Inputs TopFault → Type 0
 LoadsInputs (Some held) before now request (Ok inputs) =
-    HoldsPlatform held request.platform inputs.platform × HoldsBundle inputs.platform held request.bundle inputs.bundle
+    HoldsPlatform held request.platform inputs.platform
+        × HoldsBundle inputs.platform held request.bundle inputs.bundle
 LoadsInputs None before now request (Ok inputs) = Unit {0}
 LoadsInputs told before now request (Err fault) = Cause told before now request fault

@@ -1,14 +1,12 @@
 //! Laws of setups and of legal histories. Each is a function that does nothing and whose contract is the
 //! law.
 
-ghost use Rattle.std.specs.Prelude.{◌≡◌, ℕ, List, []};
-ghost use Rattle.bundle_model.specs.Grants.{IsApart};
+ghost use Rattle.std.specs.Prelude.{◌≡◌, []};
 ghost use Rattle.bundle_model.specs.World.{IsSoundWorld};
-ghost use Rattle.vep_manager.specs.declared.reply.Entry.{Entry};
-ghost use Rattle.vep_manager.specs.Setup.{IsSound, last_cycle, StatesWithin};
-ghost use Rattle.vep_manager.specs.History.{grants_of, horizon_of};
-ghost use Rattle.vep_manager.specs.Legal.{IsLegal, IsComplete};
-ghost use Rattle.vep_manager.specs.Granted.{AreGranted};
+ghost use Rattle.vep_manager.specs.Setup.{IsSound};
+ghost use Rattle.vep_manager.specs.History.{grants_of};
+ghost use Rattle.vep_manager.specs.Legal.{IsLegal, CompleteIsSettled};
+ghost use Rattle.vep_manager.specs.Granted.{GrantsStayApart, GrantsAreEarly};
 
 use crate::setup::Setup;
 
@@ -24,8 +22,8 @@ pub fn loads_are_sound(_setup: &Setup)
 /// no more than loads, and they begin and end less than a slot above the greatest stated cycle.
 pub fn legal_grants_are_apart(_setup: &Setup)
     requires { IsSound _setup.now }
-    ensures apart { (history : List Entry) → IsLegal _setup.now history → IsApart _setup.now.world (grants_of _setup.now history) }
-    ensures granted { (limit : ℕ) (history : List Entry) → StatesWithin _setup.now limit → IsLegal _setup.now history → AreGranted _setup.now limit history }
+    ensures apart { GrantsStayApart _setup.now }
+    ensures granted { GrantsAreEarly _setup.now }
 {}
 
 /// The empty history is legal and grants nothing.
@@ -38,5 +36,5 @@ pub fn empty_history_is_legal(_setup: &Setup)
 /// The horizon of a complete history is the budget.
 #[tactic(auto, using(crate::proofs::Standing::horizon_complete))]
 pub fn complete_histories_are_settled(_setup: &Setup)
-    ensures { (history : List Entry) → IsComplete _setup.now history → horizon_of _setup.now history ≡ _setup.now.budget }
+    ensures { CompleteIsSettled _setup.now }
 {}
