@@ -1,11 +1,9 @@
 //! Reading and judging one file of a request.
 
 ghost use Rattle.std.specs.Prelude.{◌≡◌, ◌≤◌, length, All, IfOk};
-ghost use Rattle.soc_io.specs.Reading.{file_limit};
 ghost use Rattle.bundle_model.specs.WellFormed.{IsWellFormed};
-ghost use Rattle.vep_manager.specs.Setup.{stated_cycle, last_cycle};
-ghost use Rattle.soc_top.specs.Setups.{command_limit};
-ghost use Rattle.soc_top.specs.Loading.{ReadsFile, ReadsPlatform, JudgesScript, ReadsScript, ReadsBundle};
+ghost use Rattle.vep_manager.specs.Setup.{stated_cycle};
+ghost use Rattle.soc_top.specs.inner.Loading.{ReadsFile, ReadsPlatform, JudgesScript, ReadsScript, ReadsBundle};
 
 use crate::fault::TopFault;
 use bundle_file::read_bundle;
@@ -13,17 +11,14 @@ use bundle_model::{BRule, Bundle, BundleFault};
 use platform_file::read_platform;
 use platform_model::{PRule, Platform, PlatformFault};
 use script_file::{Script, ScriptFault, read_script};
-use soc_base::{Items, Text};
+use soc_base::{Items, LAST_CYCLE, MOST_COMMANDS, MOST_FILE_BYTES, Text};
 use soc_io::{Files, FilesFault};
 use std::alloc::Global;
-
-/// The most commands that the scripts of a run have in all.
-const COMMAND_LIMIT: u16 = 256;
 
 /// What was read of a file.
 #[derive(Debug, Drop)]
 pub enum Content {
-    /// Its bytes, of which there are at most 4,194,304.
+    /// Its bytes, of which there are at most `MOST_FILE_BYTES`.
     Whole(Items<u8>),
     /// The file is longer.
     TooLong,
@@ -76,12 +71,12 @@ pub fn load_platform<F: Files>(
 // Judges the bytes of a script of a name.
 #[tactic(auto, using(crate::proofs::Scripts::few_meant, crate::proofs::Scripts::cycles_meant))]
 fn judge_script(alloc: Global, name: &Text, bytes: &[u8]) -> Result<Script, TopFault>
-    requires { length bytes.now ≤ file_limit }
+    requires { length bytes.now ≤ MOST_FILE_BYTES }
     ensures judges { JudgesScript name.now bytes.now result }
-    ensures few { IfOk result (λ script. length script.commands ≤ command_limit) }
-    ensures cycles { IfOk result (λ script. All (λ command. stated_cycle command ≤ last_cycle) script.commands) }
+    ensures few { IfOk result (λ script. length script.commands ≤ MOST_COMMANDS) }
+    ensures cycles { IfOk result (λ script. All (λ command. stated_cycle command ≤ LAST_CYCLE) script.commands) }
 {
-    match read_script(alloc, bytes, COMMAND_LIMIT) {
+    match read_script(alloc, bytes, MOST_COMMANDS) {
         Ok(script) => Ok(script),
         Err(ScriptFault::NoMemory) => Err(TopFault::NoMemory),
         Err(fault) => match Text::from_str(alloc, name.as_str()) {
@@ -96,8 +91,8 @@ pub fn load_script<F: Files>(alloc: Global, name: &Text, files: &mut F) -> Resul
     ensures same { F.holds files.new ≡ F.holds files.old }
     ensures counted { F.faults files.old ≤ F.faults files.new }
     ensures reads { ReadsScript (F.holds files.old) (F.faults files.old) (F.faults files.new) name.now result }
-    ensures few { IfOk result (λ script. length script.commands ≤ command_limit) }
-    ensures cycles { IfOk result (λ script. All (λ command. stated_cycle command ≤ last_cycle) script.commands) }
+    ensures few { IfOk result (λ script. length script.commands ≤ MOST_COMMANDS) }
+    ensures cycles { IfOk result (λ script. All (λ command. stated_cycle command ≤ LAST_CYCLE) script.commands) }
 {
     match read_file(alloc, name, files) {
         Ok(Content::Whole(bytes)) => judge_script(alloc, name, bytes.as_slice()),

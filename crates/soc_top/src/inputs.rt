@@ -2,8 +2,8 @@
 
 ghost use Rattle.std.specs.Prelude.{◌≡◌, ◌≤◌, IfOk};
 ghost use Rattle.bundle_model.specs.WellFormed.{IsWellFormed};
-ghost use Rattle.soc_top.specs.Loading.{GetsBundle};
-ghost use Rattle.soc_top.specs.Inputs.{LoadsInputs};
+ghost use Rattle.soc_top.specs.inner.Loading.{GetsBundle};
+ghost use Rattle.soc_top.specs.inner.Inputs.{LoadsInputs};
 
 use crate::fault::TopFault;
 use crate::file::{load_bundle, load_platform};

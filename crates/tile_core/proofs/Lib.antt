@@ -12,3 +12,7 @@ pub mod Lists
 pub mod Folding
 pub mod Rooms
 pub mod Starting
+pub mod Turns
+pub mod Settling
+pub mod Made
+pub mod Slots

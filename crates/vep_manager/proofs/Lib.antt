@@ -2,7 +2,9 @@ pub mod Lists
 pub mod Labels
 pub mod Growth
 pub mod SetupLemmas
+pub mod States
 pub mod Replied
 pub mod Standing
 pub mod Keeping
 pub mod Small
+pub mod Laws

@@ -29,11 +29,15 @@ loads_from catalog session number (name ∷ names) =
     record { label = record { session = session; load = number }; bundle = place_of catalog name }
     ∷ loads_from catalog session (number + 1) names
 
+-- the loads of a session with these commands
+abbrev pub loads_of_session : List Named → ℕ → List Command → List LoadName
+loads_of_session catalog session commands = loads_from catalog session 1 (loaded_names commands)
+
 -- the loads of sessions, numbered from `session` on
 abbrev pub session_loads : List Named → ℕ → List Script → List LoadName
 session_loads catalog session [] = []
 session_loads catalog session (script ∷ scripts) =
-    loads_from catalog session 1 (loaded_names script.commands) ++ session_loads catalog (session + 1) scripts
+    loads_of_session catalog session script.commands ++ session_loads catalog (session + 1) scripts
 
 -- each load command of the sessions' scripts, by its session and its number among that session's load
 -- commands, both counted from 1, with the catalog's entry of its name

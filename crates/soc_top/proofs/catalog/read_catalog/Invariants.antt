@@ -1,6 +1,6 @@
 use Rattle.std.proofs.Common.{◌≡◌, ◌≤◌, take, All, IfOk}
 use Rattle.bundle_model.specs.WellFormed.{IsWellFormed}
-use Rattle.soc_top.specs.Naming.{catalog_names, IsJudged}
+use Rattle.soc_top.specs.inner.Naming.{catalog_names, IsJudged}
 use Rattle.soc_top.proofs.catalog.read_catalog.Given as goal
 
 abbrev pub invariant-loop-name : goal.invariant-loop-name
