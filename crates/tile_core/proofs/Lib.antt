@@ -16,3 +16,6 @@ pub mod Turns
 pub mod Settling
 pub mod Made
 pub mod Slots
+pub mod Fresh
+pub mod Found
+pub mod Laws

@@ -60,7 +60,7 @@ have_parts world all loads grants number site place load there =
     (has.0, ap (λ (o : Option LoadName). option_and_then (λ (l : LoadName). part_on world number l.bundle) o) there ∙ has.1)
 
 -- the grant of its own label is the grant
-own_grant : (world : World) (all loads : List LoadName) (grants : List Grant) (number k : ℕ) (grant : Grant) (label : Label) → IsSite world all loads grants number → slice_get grants k ≡ Some grant → grant.label ≡ label → grant_of grants label ≡ Some grant
+pub own_grant : (world : World) (all loads : List LoadName) (grants : List Grant) (number k : ℕ) (grant : Grant) (label : Label) → IsSite world all loads grants number → slice_get grants k ≡ Some grant → grant.label ≡ label → grant_of grants label ≡ Some grant
 own_grant world all loads grants number k grant label site there same =
     found_at (λ (g : Grant). same_label g.label label) grants k grant there
     (and_from (grant.label.session == label.session) (grant.label.load == label.load) (eq-eqb grant.label.session label.session (ap (λ (l : Label). l.session) same)) (eq-eqb grant.label.load label.load (ap (λ (l : Label). l.load) same)))

@@ -167,3 +167,19 @@ slot_holds world all grants view t sound apart of made h =
     let P : (ℕ → Option Part) → Type 0 = λ ps. Holds times ps (granted_from world grants (t.at + 1) last) done.0.starts (views_slot world grants t view) ((t.at + 1) * len) last in
     let Q : List LoadName → Type 0 = λ loads. Holds times parts (λ place. option_and_then (granted_cycle world grants (t.at + 1)) (slice_get loads place)) done.0.starts (views_slot world grants t view) ((t.at + 1) * len) last in
     record { starts = done.0.starts; holds = subst P (sym (parts_alike world t after both)) (subst Q (sym both.loads) there) }
+
+slot_alike : (world : World) (all : List LoadName) (grants : List Grant) (t : TileState) → IsSoundWorld world all → IsMadeFor world all t → IsAlike t (with_cycles world (with_starts world grants (with_ends world grants t)))
+slot_alike world all grants t sound made =
+    let s = with_starts world grants (with_ends world grants t) in
+    let alike = settled_alike world all grants t sound.catalog made in
+    let kept = cycles_kept world all world.platform.costs (s.at * world.platform.slot_cycles) world.platform.slot_cycles s sound.catalog (made_alike world all t s alike made) in
+    alike_more t s (with_cycles world s) alike kept.alike
+
+-- a slot leaves a tile its number and its loads
+pub slot_number : (world : World) (all : List LoadName) (grants : List Grant) (t : TileState) → IsSoundWorld world all → IsMadeFor world all t → (tile_slot world grants t).number ≡ t.number
+unfolding tile_slot
+slot_number world all grants t sound made = (slot_alike world all grants t sound made).number
+
+pub slot_loads : (world : World) (all : List LoadName) (grants : List Grant) (t : TileState) → IsSoundWorld world all → IsMadeFor world all t → (tile_slot world grants t).loads ≡ t.loads
+unfolding tile_slot
+slot_loads world all grants t sound made = (slot_alike world all grants t sound made).loads
