@@ -1,4 +1,3 @@
-pub mod Given
 pub mod Turns
 pub mod Runs
 pub mod Alone
