@@ -4,3 +4,5 @@ pub mod Alone
 pub mod Follows
 pub mod Found
 pub mod Standing
+pub mod Numbers
+pub mod Laws
