@@ -16,7 +16,7 @@ use Rattle.rv_core.specs.Effect.{Request, request_of, ask}
 use Rattle.rv_core.specs.Effect.Request.{Nothing, LoadFrom, StoreTo}
 use Rattle.tile_memory.specs.declared.memory.MemFault.{MemFault}
 use Rattle.tile_memory.specs.Bytes.{refusal_of, stored_bytes}
-use Rattle.tile_memory.proofs.Regions.{length-stored_bytes}
+use Rattle.tile_memory.proofs.Laws.{length-stored_bytes}
 use Rattle.trace_log.specs.declared.row.TraceRow.{TraceRow}
 use Rattle.trace_log.specs.declared.row.Kind.{Kind}
 use Rattle.trace_log.specs.declared.row.Kind.TheVariants.{Word as TraceWord, Step}
@@ -25,7 +25,9 @@ use Rattle.trace_log.specs.declared.row.PartEnd.TheVariants.{Live, Halt as Halte
 use Rattle.trace_log.specs.Kinds.{has_kind}
 use Rattle.trace_log.specs.Log.{Log, logged, finished}
 use Rattle.part_model.specs.declared.record.Place.{Place}
-use Rattle.part_model.specs.Answers.{BusState, device_base, traced, load_answer, store_answer, memory_store, register_store}
+use Rattle.cycle_table.specs.declared.table.TheConstants.{DEVICE_BASE}
+use Rattle.part_model.specs.declared.device.TheConstants.{TRACE}
+use Rattle.part_model.specs.Answers.{BusState, traced, load_answer, store_answer, memory_store, register_store}
 use Rattle.part_model.specs.Running.{CycleEnd, running_cycle, effect_at, effect_with, instr_of}
 use Rattle.part_model.specs.Part.{PartState, part_bus, bus_of, log_after, unless_ended, part_cycle}
 
@@ -65,12 +67,12 @@ unfolding after_answer
 register_keeps K kept b addr Byte value holds = holds
 register_keeps K kept b addr Half value holds = holds
 register_keeps K kept b addr Word value holds =
-    either (after_answer K) (addr == device_base) _ _ (traced_keeps K kept b.place b.cycle TraceWord value b.bytes b.log holds) holds
+    either (after_answer K) (addr == TRACE) _ _ (traced_keeps K kept b.place b.cycle TraceWord value b.bytes b.log holds) holds
 
 store_keeps : (K : List ℕ → Log → Type 0) → IsKept K → (b : BusState) (addr : ℕ) (width : Width) (value : ℕ) → K b.bytes b.log → after_answer K (store_answer b addr width value)
 unfolding after_answer store_answer
 store_keeps K kept b addr width value holds =
-    either (after_answer K) (nat_lt addr device_base) _ _
+    either (after_answer K) (nat_lt addr DEVICE_BASE) _ _
     (memory_keeps K kept (refusal_of (length b.bytes) addr width) b addr width value refl holds)
     (either (after_answer K) (addr % width_bytes width == 0) _ _ (register_keeps K kept b addr width value holds) holds)
 
@@ -78,7 +80,7 @@ load_keeps : (K : List ℕ → Log → Type 0) (b : BusState) (addr : ℕ) (widt
 unfolding after_answer load_answer
 load_keeps K b addr width holds = holds
 
-ask_keeps : (K : List ℕ → Log → Type 0) → IsKept K → (request : Request) (b : BusState) → K b.bytes b.log → after_answer K (ask load_answer store_answer request b)
+ask_keeps : (K : List ℕ → Log → Type 0) → IsKept K → (request : Request) (b : BusState) → K b.bytes b.log → after_answer K (ask part_bus request b)
 unfolding after_answer
 ask_keeps K kept Nothing b holds = holds
 ask_keeps K kept (LoadFrom addr width) b holds = load_keeps K b addr width holds

@@ -20,7 +20,7 @@ use Rattle.bundle_model.specs.WellFormed.{IsWellFormed, IsWellFormedPart}
 use Rattle.bundle_model.specs.World.{IsSoundCatalog}
 use Rattle.alone_model.specs.App.{AppPart, AppState, alone_at}
 use Rattle.alone_model.specs.Trace.{part_trace}
-use Rattle.alone_model.proofs.KeptLogs.{alone_parts, alone_fits}
+use Rattle.alone_model.proofs.Laws.{alone_parts, alone_fits}
 use Rattle.tile_core.specs.declared.station.Station.{Station}
 use Rattle.tile_core.specs.Tile.{TileState, log_of}
 use Rattle.tile_core.specs.Lockstep.{lockstep}

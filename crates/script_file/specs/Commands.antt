@@ -44,12 +44,12 @@ load_at name (Ok cycle) = Ok (Some (Load name cycle))
 load_at name (Err fault) = Err S3
 
 -- the load of a name at a cycle: the name is judged first, then the cycle
-abbrev pub load_of : List ℕ → List ℕ → Result (Option Command) SRule
-load_of name cycle = if is_name name then load_at name (number_read cycle LAST_STATED_CYCLE) else Err S2
+abbrev pub load_command_of : List ℕ → List ℕ → Result (Option Command) SRule
+load_command_of name cycle = if is_name name then load_at name (number_read cycle LAST_STATED_CYCLE) else Err S2
 
 -- the command of a line, or the least rule that it breaks. For now `load` is the one command.
 abbrev pub command_of : List (List ℕ) → Result (Option Command) SRule
-command_of words = if has_load_shape words then load_of (word_at words 1) (word_at words 3) else Err S1
+command_of words = if has_load_shape words then load_command_of (word_at words 1) (word_at words 3) else Err S1
 
 -- a blank line has no word, and a comment's first word begins with `#`
 abbrev pub is_remark : List (List ℕ) → Bool

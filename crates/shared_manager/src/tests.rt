@@ -162,11 +162,11 @@ fn promised() -> Entry {
 }
 
 // Commits by two passes, and has the first one refresh the schedule.
-fn commit_by_two<R: Abort + Wait>(
+fn commit_by_two<'s, R: Abort + Wait>(
     rt: &R,
-    shared: &SharedManager<'_>,
-    first: &mut Pass<'_>,
-    second: &mut Pass<'_>,
+    shared: &SharedManager<'s>,
+    first: &mut Pass<'s>,
+    second: &mut Pass<'s>,
     schedule: &mut Schedule,
 )
     requires rest { RestsAt shared.now first.old × RestsAt shared.now second.old }

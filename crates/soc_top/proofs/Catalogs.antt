@@ -42,36 +42,42 @@ next_in platform held names i name other catalog inside is so_far judged same =
 absent_too : (held : Held) (name other : List ℕ) → other ≡ name → held_at held name ≡ None → held_at held other ≡ None
 absent_too held name other same none = rw same none
 
+-- the catalog of the first `i` of some names, each judged, where the count of the files' faults went from
+-- `before` to `mid`
+pub record HasFirst (told : Option Held) (before mid : ℕ) (platform : Platform) (names : List (List ℕ)) (i : ℕ)
+    (catalog : List Named) : Type 0 where
+  pub later : before ≤ mid
+  pub so_far : catalog_names catalog ≡ take i names
+  pub judged : IsJudged told platform catalog
+
 pub lacks_from : (told : Option Held) (before mid now : ℕ) (platform : Platform) (names : List (List ℕ)) (i : ℕ)
     (name : List ℕ) (catalog : List Named) (fault : TopFault)
-    → i < length names → name ≡ get_or names i name → before ≤ mid → catalog_names catalog ≡ take i names
-    → IsJudged told platform catalog → Misses told mid now name fault → LacksCatalog told before now names fault
-lacks_from (Some held) before mid now platform names i name catalog (BadPlatform rule) inside is later so_far judged
-    misses = absurd misses
-lacks_from (Some held) before mid now platform names i name catalog (ScriptTooLong other) inside is later so_far
-    judged misses = absurd misses
-lacks_from (Some held) before mid now platform names i name catalog (Script other fault) inside is later so_far judged
-    misses = absurd misses
-lacks_from (Some held) before mid now platform names i name catalog (BadBundle other rule) inside is later so_far
-    judged misses = absurd misses
-lacks_from (Some held) before mid now platform names i name catalog (Absent other) inside is later so_far judged
-    misses =
-    (next_in platform held names i name other catalog inside is so_far judged misses.0, absent_too held name other
-        misses.0 misses.1)
-lacks_from (Some held) before mid now platform names i name catalog (Read other) inside is later so_far judged misses
-    =
-    (next_in platform held names i name other catalog inside is so_far judged misses.0, omega (arith, misses.1))
-lacks_from (Some held) before mid now platform names i name catalog NoMemory inside is later so_far judged misses = tt
-lacks_from None before mid now platform names i name catalog (BadPlatform rule) inside is later so_far judged misses =
+    → HasFirst told before mid platform names i catalog → i < length names → name ≡ get_or names i name
+    → Misses told mid now name fault → LacksCatalog told before now names fault
+lacks_from (Some held) before mid now platform names i name catalog (BadPlatform rule) first inside is misses =
     absurd misses
-lacks_from None before mid now platform names i name catalog (ScriptTooLong other) inside is later so_far judged
-    misses = absurd misses
-lacks_from None before mid now platform names i name catalog (Script other fault) inside is later so_far judged
-    misses = absurd misses
-lacks_from None before mid now platform names i name catalog (BadBundle other rule) inside is later so_far judged
-    misses = absurd misses
-lacks_from None before mid now platform names i name catalog (Absent other) inside is later so_far judged misses =
-    omega (arith, misses.1)
-lacks_from None before mid now platform names i name catalog (Read other) inside is later so_far judged misses =
-    omega (arith, misses.1)
-lacks_from None before mid now platform names i name catalog NoMemory inside is later so_far judged misses = tt
+lacks_from (Some held) before mid now platform names i name catalog (ScriptTooLong other) first inside is misses =
+    absurd misses
+lacks_from (Some held) before mid now platform names i name catalog (Script other fault) first inside is misses =
+    absurd misses
+lacks_from (Some held) before mid now platform names i name catalog (BadBundle other rule) first inside is misses =
+    absurd misses
+lacks_from (Some held) before mid now platform names i name catalog (Absent other) first inside is misses =
+    (next_in platform held names i name other catalog inside is first.so_far first.judged misses.0, absent_too held
+        name other misses.0 misses.1)
+lacks_from (Some held) before mid now platform names i name catalog (Read other) first inside is misses =
+    (next_in platform held names i name other catalog inside is first.so_far first.judged misses.0, omega
+        (arith, misses.1, first.later))
+lacks_from (Some held) before mid now platform names i name catalog NoMemory first inside is misses = tt
+lacks_from None before mid now platform names i name catalog (BadPlatform rule) first inside is misses = absurd misses
+lacks_from None before mid now platform names i name catalog (ScriptTooLong other) first inside is misses =
+    absurd misses
+lacks_from None before mid now platform names i name catalog (Script other fault) first inside is misses =
+    absurd misses
+lacks_from None before mid now platform names i name catalog (BadBundle other rule) first inside is misses =
+    absurd misses
+lacks_from None before mid now platform names i name catalog (Absent other) first inside is misses =
+    omega (arith, misses.1, first.later)
+lacks_from None before mid now platform names i name catalog (Read other) first inside is misses =
+    omega (arith, misses.1, first.later)
+lacks_from None before mid now platform names i name catalog NoMemory first inside is misses = tt

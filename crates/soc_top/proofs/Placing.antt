@@ -11,23 +11,23 @@ use Rattle.bundle_model.specs.declared.world.Named.{Named}
 use Rattle.bundle_model.specs.declared.world.LoadName.{LoadName}
 use Rattle.script_file.specs.declared.command.Command.{Command}
 use Rattle.script_file.specs.declared.command.Script.{Script}
-use Rattle.vep_manager.specs.Loads.{loaded_name, loaded_names, loads_from, loads_of, place_of}
+use Rattle.vep_manager.specs.Loads.{loaded_name, loaded_names, loads_from, loads_of, catalog_place}
 use Rattle.soc_top.specs.Setups.{bundle_names}
 use Rattle.soc_top.specs.inner.Naming.{catalog_names}
 use Rattle.soc_top.proofs.Names.{named_among, few_names}
 
 -- a name of the catalog has a place in it
 place_in : (b : Bool) (named : Named) (catalog : List Named) (name : List ℕ)
-    → (names (catalog_names catalog) name ≡ true → place_of catalog name < length catalog)
+    → (names (catalog_names catalog) name ≡ true → catalog_place catalog name < length catalog)
     → (b || names (catalog_names catalog) name) ≡ true
-    → cond (not b) (1 + place_of catalog name) 0 < length (named ∷ catalog)
+    → cond (not b) (1 + catalog_place catalog name) 0 < length (named ∷ catalog)
 place_in true named catalog name later here = omega arith
 place_in false named catalog name later here =
     let below = later here in
     omega arith
 
 place_below : (catalog : List Named) (name : List ℕ) → names (catalog_names catalog) name ≡ true
-    → place_of catalog name < length catalog
+    → catalog_place catalog name < length catalog
 place_below [] name here = cc
 place_below (named ∷ catalog) name here =
     place_in (bytes_eq named.name name) named catalog name (place_below catalog name) here
@@ -42,7 +42,7 @@ loads_below catalog number [] known = refl
 loads_below catalog number (name ∷ all) known =
     let P : List ℕ → Type 0 = λ other. names (catalog_names catalog) other ≡ true in
     let here = place_below catalog name (All-head P name all known) in
-    both_true (nat_lt (place_of catalog name) (length catalog)) _ (le-leb _ _ here)
+    both_true (nat_lt (catalog_place catalog name) (length catalog)) _ (le-leb _ _ here)
         (loads_below catalog (number + 1) all (All-tail P name all known))
 
 pub known_loads : (catalog : List Named) (commands : List Command) → catalog_names catalog ≡ bundle_names commands

@@ -20,7 +20,7 @@ use Rattle.soc_top.specs.declared.ending.Ending.{Ending}
 use Rattle.soc_top.specs.declared.ending.Ending.TheVariants.{Done, Unwritten, Refused}
 use Rattle.soc_top.specs.Files.{HoldsPlatform, BreaksPlatform, HoldsBundle, BreaksBundle}
 use Rattle.soc_top.specs.declared.request.Request.TheVariants.{Alone}
-use Rattle.soc_top.specs.Request.{request_of}
+use Rattle.soc_top.specs.Request.{asked_of}
 use Rattle.soc_top.specs.Exchange.{Exchange, Says}
 use Rattle.soc_top.specs.Faults.{fault_line, fault_status, ending_status}
 
@@ -147,4 +147,4 @@ pub record AloneAnswers (e : Exchange) (request : AloneWords) (status : ℕ) : T
 -- a status is what a request for one application may end with, where the words ask for one
 abbrev pub AnswersAlone : Exchange → List (List ℕ) → ℕ → Type 0
 AnswersAlone e words status =
-    (request : AloneWords) → request_of words ≡ Some (Alone request) → AloneAnswers e request status
+    (request : AloneWords) → asked_of words ≡ Some (Alone request) → AloneAnswers e request status

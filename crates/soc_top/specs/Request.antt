@@ -1,17 +1,14 @@
 -- What the words of a command line ask for.
-use Rattle.std.specs.Prelude.{ℕ, ◌≤◌, ◌&&◌, ◌==◌, List, [], codes, length, unwrap_or, slice_get, if◌then◌else◌, Option, Some, None, Result, Ok, Err}
+use Rattle.std.specs.Prelude.{ℕ, ◌≤◌, ◌&&◌, ◌==◌, List, codes, length, unwrap_or, slice_get, if◌then◌else◌, Option, Some, None, Result, Ok, Err}
 use Rattle.std.specs.Str.{bytes_eq}
 use Rattle.soc_base.specs.declared.limits.TheConstants.{LAST_STATED_CYCLE}
 use Rattle.soc_base.specs.declared.number.NumFault.{NumFault}
 use Rattle.soc_base.specs.Text.{number_read}
+use Rattle.script_file.specs.Commands.{word_at}
 use Rattle.soc_top.specs.declared.request.AloneWords.{AloneWords}
 use Rattle.soc_top.specs.declared.request.RunWords.{RunWords}
 use Rattle.soc_top.specs.declared.request.Request.{Request}
 use Rattle.soc_top.specs.declared.request.Request.TheVariants.{Alone, Run}
-
--- the n-th word, counted from 0
-abbrev pub word_at : List (List ℕ) → ℕ → List ℕ
-word_at words n = unwrap_or (slice_get words n) []
 
 -- the cycle that a word states
 abbrev pub cycles_of : List ℕ → Result ℕ NumFault
@@ -40,8 +37,8 @@ run_asked words = run_of (word_at words 1) (cycles_of (word_at words 2)) (word_a
 
 -- what the words ask for, if they are those of a command: `alone PLATFORM BUNDLE START BUDGET` or
 -- `run PLATFORM BUDGET SCRIPT`
-unfoldable pub request_of : List (List ℕ) → Option Request
-request_of words =
+unfoldable pub asked_of : List (List ℕ) → Option Request
+asked_of words =
     if length words == 5 && bytes_eq (word_at words 0) (codes "alone")
     then alone_asked words
     else (if length words == 4 && bytes_eq (word_at words 0) (codes "run")

@@ -15,7 +15,7 @@ use Rattle.soc_top.specs.declared.fault.TopFault.TheVariants.{Platform, ScriptTo
 use Rattle.soc_top.specs.declared.ending.Ending.{Ending}
 use Rattle.soc_top.specs.declared.ending.Ending.TheVariants.{Done, Unwritten, Refused}
 use Rattle.soc_top.specs.declared.request.Request.TheVariants.{Run}
-use Rattle.soc_top.specs.Request.{request_of}
+use Rattle.soc_top.specs.Request.{asked_of}
 use Rattle.soc_top.specs.Exchange.{Exchange, Says}
 use Rattle.soc_top.specs.Faults.{fault_line, fault_status}
 use Rattle.soc_top.specs.Setups.{GivesSetup, RunFault, IsDecidedFault, AllowsRun}
@@ -79,4 +79,4 @@ pub record RunAnswers (e : Exchange) (request : RunWords) (status : ℕ) : Type 
 
 -- a status is what a request to run may end with, where the words ask for one
 abbrev pub AnswersRun : Exchange → List (List ℕ) → ℕ → Type 0
-AnswersRun e words status = (request : RunWords) → request_of words ≡ Some (Run request) → RunAnswers e request status
+AnswersRun e words status = (request : RunWords) → asked_of words ≡ Some (Run request) → RunAnswers e request status

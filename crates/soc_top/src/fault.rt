@@ -9,7 +9,7 @@ ghost use Rattle.soc_top.specs.Faults.{script_fault_text, fault_line, fault_stat
 use bundle_model::BRule;
 use platform_model::PRule;
 use script_file::ScriptFault;
-use soc_base::{Line, Text, push_number};
+use soc_base::{Line, NoMemory, Text, push_number};
 use soc_io::{Printer, Sink};
 
 /// Why a request is refused. Names are those of files, as the request gave them.
@@ -29,6 +29,17 @@ pub enum TopFault {
     Read(Text),
     /// Memory was wanted and not had.
     NoMemory,
+}
+
+impl From<NoMemory> for TopFault {
+    ghost use Rattle.std.specs.Prelude.{◌≡◌};
+    ghost use Rattle.soc_top.specs.declared.fault.TopFault.TheVariants.{NoMemory as Unheld};
+
+    ghost from_gives = { λ _ fault. fault ≡ Unheld };
+
+    fn from(_none: NoMemory) -> TopFault {
+        TopFault::NoMemory
+    }
 }
 
 // The end of the line of a script's fault.

@@ -1,7 +1,7 @@
 //! What a command line asks for.
 
 ghost use Rattle.std.specs.Prelude.{◌≡◌, ◌≢◌, ◌≤◌, ◌↔◌, None, Some, Ok, IfOk, length};
-ghost use Rattle.soc_top.specs.Request.{alone_of, alone_asked, run_of, run_asked, request_of, AreInForm};
+ghost use Rattle.soc_top.specs.Request.{alone_of, alone_asked, run_of, run_asked, asked_of, AreInForm};
 
 use soc_base::{LAST_STATED_CYCLE, Text, Words, read_number};
 use std::alloc::Global;
@@ -55,10 +55,10 @@ pub enum WordsFault {
 /// Reads what words ask for: `alone PLATFORM BUNDLE START BUDGET` or `run PLATFORM BUDGET SCRIPT`, the
 /// cycles in decimal digits. Refuses with `Usage` exactly where the words aren't of one of these forms
 /// or a cycle is above 1,000,000,000,000.
-#[tactic(auto, unfolding(crate::specs::Request::request_of))]
+#[tactic(auto, unfolding(crate::specs::Request::asked_of))]
 pub fn read_words(alloc: Global, words: &Words) -> Result<Request, WordsFault>
-    ensures usage { (result ≡ Err WordsFault.Usage) ↔ (request_of words.now ≡ None) }
-    ensures request { IfOk result (λ request. request_of words.now ≡ Some request) }
+    ensures usage { (result ≡ Err WordsFault.Usage) ↔ (asked_of words.now ≡ None) }
+    ensures request { IfOk result (λ request. asked_of words.now ≡ Some request) }
     ensures in_form { IfOk result AreInForm }
 {
     if words.len() == 5 && words.word(0) == "alone" {

@@ -83,10 +83,8 @@ fn catalog_of<F: Files>(
     ensures sound { IfOk result (λ catalog. AreWellFormed platform.now catalog.items) }
     ensures lacks { IfErr result (LacksCatalog (F.holds files.old) (F.faults files.old) (F.faults files.new) (bundle_names script.now.commands)) }
 {
-    match bundle_names(alloc, script) {
-        Ok(names) => read_catalog(alloc, platform, names.as_slice(), files),
-        Err(NoMemory) => Err(TopFault::NoMemory),
-    }
+    let names = bundle_names(alloc, script)?;
+    read_catalog(alloc, platform, names, files)
 }
 
 /// Reads and judges the files of a request, in this order: the platform, the script, and each
@@ -104,20 +102,9 @@ pub fn read_setup<F: Files>(
     ensures loads { LoadsSetup (F.holds files.old) (F.faults files.old) (F.faults files.new) request.now result }
     ensures sound { IfOk result IsSound }
 {
-    let platform = match load_platform(alloc, &request.platform, files) {
-        Ok(platform) => platform,
-        Err(fault) => return Err(fault),
-    };
-    let script = match load_script(alloc, &request.script, files) {
-        Ok(script) => script,
-        Err(fault) => return Err(fault),
-    };
-    let catalog = match catalog_of(alloc, &platform, &script, files) {
-        Ok(catalog) => catalog,
-        Err(fault) => return Err(fault),
-    };
-    match setup_of(alloc, platform, catalog, script, request.budget) {
-        Ok(setup) => Ok(setup),
-        Err(NoMemory) => Err(TopFault::NoMemory),
-    }
+    let platform = load_platform(alloc, &request.platform, files)?;
+    let script = load_script(alloc, &request.script, files)?;
+    let catalog = catalog_of(alloc, &platform, &script, files)?;
+    let setup = setup_of(alloc, platform, catalog, script, request.budget)?;
+    Ok(setup)
 }

@@ -1,7 +1,7 @@
 //! The top call.
 
 ghost use Rattle.std.specs.Prelude.{◌≡◌, ◌↔◌, None};
-ghost use Rattle.soc_top.specs.Request.{request_of};
+ghost use Rattle.soc_top.specs.Request.{asked_of};
 ghost use Rattle.soc_top.specs.Exchange.{exchanged, Says, SaysText};
 ghost use Rattle.soc_top.specs.Faults.{usage_line};
 ghost use Rattle.soc_top.specs.Alone.{AnswersAlone};
@@ -28,7 +28,7 @@ fn say<S: Sink>(sink: &mut S, line: &str)
 /// the program ends with: 0 where it is done, 1 where the words aren't those of a command, and else as
 /// the command's own call says (`alone_call`, `serial_call`). At 1 the line `compsoc: usage` was written.
 pub fn compsoc<F: Files, S: Sink>(alloc: Global, words: &Words, files: &mut F, sink: &mut S) -> u8
-    ensures usage { (result ≡ 1) ↔ (request_of words.now ≡ None) }
+    ensures usage { (result ≡ 1) ↔ (asked_of words.now ≡ None) }
     ensures usage_line { result ≡ 1 → Says (exchanged F.holds F.faults S.written S.faults files.old files.new sink.old sink.new) usage_line }
     ensures alone { AnswersAlone (exchanged F.holds F.faults S.written S.faults files.old files.new sink.old sink.new) words.now result }
     ensures run { AnswersRun (exchanged F.holds F.faults S.written S.faults files.old files.new sink.old sink.new) words.now result }

@@ -19,7 +19,8 @@ use Rattle.vep_manager.specs.Granted.{IsEarly}
 use Rattle.vep_manager.specs.Manager.{ManagerState}
 use Rattle.vep_manager.specs.inner.Keeping.{Known, IsKept, counted, ended_by, opened_by, grants_after}
 use Rattle.vep_manager.proofs.States.{held, grown, grants_at, commands_at, done_at, IsNextEntry}
-use Rattle.vep_manager.proofs.Standing.{Standing, standing, standing_more, legal_none, legal_more, grants_more, few_grants, few_entries}
+use Rattle.vep_manager.proofs.Standing.{Standing, standing, standing_more, legal_none, legal_more, grants_more}
+use Rattle.vep_manager.proofs.Settled.{few_grants, few_entries}
 
 pub kept_stands : {state : ManagerState} {known : Known} → IsKept state known → Standing state LAST_CYCLE
 kept_stands {state} kept = standing state LAST_CYCLE kept.sound.cycles kept.legal

@@ -15,7 +15,7 @@ use Rattle.bundle_model.specs.World.{IsSoundWorld}
 use Rattle.script_file.specs.declared.command.Command.{Command}
 use Rattle.script_file.specs.declared.command.Script.{Script}
 use Rattle.vep_manager.specs.declared.setup.Setup.{Setup}
-use Rattle.vep_manager.specs.Loads.{place_of, loaded_name, loaded_names, loads_from, session_loads, loads_of}
+use Rattle.vep_manager.specs.Loads.{catalog_place, loaded_name, loaded_names, loads_from, session_loads, loads_of}
 use Rattle.vep_manager.specs.Setup.{IsSound}
 use Rattle.vep_manager.specs.History.{numbered, commands_of}
 use Rattle.vep_manager.specs.Replies.{next_label}
@@ -50,7 +50,7 @@ loads_from-apart catalog session number [] = pairs_none (λ (one other : LoadNam
 loads_from-apart catalog session number (name ∷ names) =
     let R : LoadName → LoadName → Type 0 = λ one other. one.label ≢ other.label in
     let first : LoadName =
-        record { label = record { session = session; load = number }; bundle = place_of catalog name } in
+        record { label = record { session = session; load = number }; bundle = catalog_place catalog name } in
     pairs_cons R first (loads_from catalog session (number + 1) names)
     (All-weaker (λ (load : LoadName). number + 1 ≤ load.label.load) (R first) (λ load above is. let same : number
         ≡ load.label.load = ap (λ (l : Label). l.load) is in omega arith)
@@ -137,13 +137,13 @@ label_from : (catalog : List Named) (session number : ℕ) (names : List (List �
 label_from catalog session number [] i below = absurd (omega arith)
 label_from catalog session number (name ∷ names) zero below =
     let first : LoadName =
-        record { label = record { session = session; load = number }; bundle = place_of catalog name } in
+        record { label = record { session = session; load = number }; bundle = catalog_place catalog name } in
     let same : number ≡ number + 0 = omega arith in
     (first, (0, omega arith, refl), ap
         (λ (n : ℕ). let label : Label = record { session = session; load = n } in label) same)
 label_from catalog session number (name ∷ names) (suc i) below =
     let first : LoadName =
-        record { label = record { session = session; load = number }; bundle = place_of catalog name } in
+        record { label = record { session = session; load = number }; bundle = catalog_place catalog name } in
     let rest = label_from catalog session (number + 1) names i (omega arith) in
     let same : number + 1 + i ≡ number + suc i = omega arith in
     (rest.0, Contains-append_right (first ∷ []) (loads_from catalog session (number + 1) names) rest.0 rest.1, rest.2
@@ -248,7 +248,7 @@ loads_from-append catalog session number [] ys = let same : number ≡ number + 
     omega arith in ap (λ n. loads_from catalog session n ys) same
 loads_from-append catalog session number (x ∷ xs) ys =
     let same : number + 1 + length xs ≡ number + length (x ∷ xs) = omega arith in
-    ap (λ l. record { label = record { session = session; load = number }; bundle = place_of catalog x } ∷ l)
+    ap (λ l. record { label = record { session = session; load = number }; bundle = catalog_place catalog x } ∷ l)
     (loads_from-append catalog session (number + 1) xs ys
         ∙ ap (λ n. loads_from catalog session (number + 1) xs ++ loads_from catalog session n ys) same)
 

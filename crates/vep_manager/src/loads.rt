@@ -3,7 +3,7 @@
 ghost use Rattle.std.specs.Prelude.{◌≡◌, ◌≤◌, ◌+◌, ◌<◌, ◌^◌, ◌++◌, length, position, All, IfOk, OnOk};
 ghost use Rattle.std.specs.Option.{option_to_list};
 ghost use Rattle.std.specs.Str.{bytes_eq};
-ghost use Rattle.vep_manager.specs.Loads.{place_of, loaded_name, loads_of, loads_of_session};
+ghost use Rattle.vep_manager.specs.Loads.{catalog_place, loaded_name, loads_of, loads_of_session};
 ghost use Rattle.vep_manager.specs.inner.Loading.{load_as};
 
 use bundle_model::{LoadName, Named};
@@ -21,7 +21,7 @@ fn first_of(catalog: &[Named], name: &str) -> Option<usize>
 // The place of the first bundle file of a name; the length of the catalog where there is none.
 fn place(catalog: &[Named], name: &str) -> u16
     requires { length catalog.now < 2 ^ 16 }
-    ensures { result ≡ place_of catalog.now name.now }
+    ensures { result ≡ catalog_place catalog.now name.now }
 {
     match first_of(catalog, name) {
         Some(place) => place as u16,

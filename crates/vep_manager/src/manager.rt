@@ -37,11 +37,10 @@ impl<'s> Model for Manager<'s> {
 
     ghost view = { λ m. record { setup = m.setup.now; history = m.history.items } };
 
-    ghost invariant = {
-        λ m. IsKept (record { setup = m.setup.now; history = m.history.items })
-            (record { grants = m.grants.items; horizon = m.horizon; entry_room = vec_capacity m.history; grant_room = vec_capacity m.grants })
-            × (m.claims ≡ m.setup.now.world)
-    };
+    ghost invariant = { λ m. IsKept (record { setup = m.setup.now; history = m.history.items })
+        (record { grants = m.grants.items; horizon = m.horizon;
+        entry_room = vec_capacity m.history; grant_room = vec_capacity m.grants })
+        × (m.claims ≡ m.setup.now.world) };
 }
 
 // The reply to a stop of a grant.
@@ -82,7 +81,7 @@ impl<'s> Manager<'s> {
     ghost use Rattle.vep_manager.specs.Legal.{IsLegal};
 
     /// Makes a manager with no history, and takes all the memory that its other calls need.
-    #[tactic(auto, using(crate::proofs::SetupLemmas::sound_world, crate::proofs::Standing::legal_none, crate::proofs::Standing::grants_none))]
+    #[tactic(auto, using(crate::proofs::SetupLemmas::sound_world, crate::proofs::Standing::legal_none, crate::proofs::Settled::grants_none))]
     pub fn new(alloc: Global, setup: &'s Setup) -> Result<Manager<'s>, NoMemory>
         requires { IsSound setup.now }
         ensures made { IfOk result (λ m. m ≡ record { setup = setup.entry.now; history = [] }) }

@@ -27,14 +27,14 @@ pub fn legal_grants_are_apart(_setup: &Setup)
 {}
 
 /// The empty history is legal and grants nothing.
-#[tactic(auto, using(crate::proofs::Standing::legal_none, crate::proofs::Standing::grants_none))]
+#[tactic(auto, using(crate::proofs::Standing::legal_none, crate::proofs::Settled::grants_none))]
 pub fn empty_history_is_legal(_setup: &Setup)
     ensures legal { IsLegal _setup.now [] }
     ensures no_grants { grants_of _setup.now [] ≡ [] }
 {}
 
 /// The horizon of a complete history is the budget.
-#[tactic(auto, using(crate::proofs::Standing::horizon_complete))]
+#[tactic(auto, using(crate::proofs::Settled::horizon_complete))]
 pub fn complete_histories_are_settled(_setup: &Setup)
     ensures { CompleteIsSettled _setup.now }
 {}

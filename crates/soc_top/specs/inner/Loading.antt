@@ -5,7 +5,7 @@ use Rattle.soc_io.specs.Counts.{Rose}
 use Rattle.soc_io.specs.Reading.{Held, held_at}
 use Rattle.platform_model.specs.declared.platform.Platform.{Platform}
 use Rattle.bundle_model.specs.declared.bundle.Bundle.{Bundle}
-use Rattle.bundle_model.specs.declared.rules.BRule.{BRule}
+use Rattle.bundle_model.specs.declared.world.Named.{Named}
 use Rattle.script_file.specs.declared.command.Script.{Script}
 use Rattle.soc_top.specs.declared.fault.TopFault.{TopFault}
 use Rattle.soc_top.specs.declared.fault.TopFault.TheVariants.{Platform as BadPlatform, ScriptTooLong, Script as BadScript, Bundle as BadBundle, Absent, Read, NoMemory}
@@ -87,10 +87,11 @@ ReadsScript (Some held) before now name (Err fault) = ToldNoScript held before n
 ReadsScript None before now name (Ok script) = Unit {0}
 ReadsScript None before now name (Err fault) = UntoldNoScript before now name fault
 
--- how the bundle file of a name is judged for a platform, or why it is not read
-abbrev pub ReadsBundle : Option Held → ℕ → ℕ → Platform → List ℕ → Result (Result Bundle BRule) TopFault → Type 0
-ReadsBundle (Some held) before now platform name (Ok judged) = JudgesFile platform held name judged
-ReadsBundle None before now platform name (Ok judged) = Unit {0}
+-- the bundle file of a name, as it is judged for a platform, or why it is not read
+abbrev pub ReadsBundle : Option Held → ℕ → ℕ → Platform → List ℕ → Result Named TopFault → Type 0
+ReadsBundle (Some held) before now platform name (Ok named) =
+    (named.name ≡ name) × JudgesFile platform held name named.judged
+ReadsBundle None before now platform name (Ok named) = named.name ≡ name
 ReadsBundle told before now platform name (Err fault) = Misses told before now name fault
 
 -- the bundle of a file for a platform, or why there is none

@@ -1,5 +1,5 @@
 use Rattle.std.proofs.Common.{rules, arith}
-use Rattle.alone_model.proofs.Merged.{merged_more}
+use Rattle.alone_model.proofs.Laws.{merged_more}
 use Rattle.report_text.specs.inner.Logs.{rows_on}
 use Rattle.report_text.proofs.RowCounts.{room_for_more}
 use Rattle.report_text.proofs.applications.merge_parts.Goals as goal

@@ -1,5 +1,5 @@
 use Rattle.vep_manager.proofs.States.{held}
-use Rattle.vep_manager.proofs.Standing.{legal_apart, legal_granted}
+use Rattle.vep_manager.proofs.Settled.{legal_apart, legal_granted}
 use Rattle.vep_manager.proofs.theorems.legal_grants_are_apart.Goals as goal
 
 pub returns-clause-apart : goal.returns-clause-apart

@@ -9,8 +9,9 @@ use Rattle.vep_manager.specs.Legal.{IsLegal}
 use Rattle.vep_manager.specs.Granted.{AreGranted}
 use Rattle.vep_manager.specs.Manager.{ManagerState}
 use Rattle.vep_manager.proofs.States.{held}
-use Rattle.vep_manager.proofs.Replied.{next_none}
-use Rattle.vep_manager.proofs.Standing.{standing, granted, legal_more}
+use Rattle.vep_manager.proofs.Nexts.{next_none}
+use Rattle.vep_manager.proofs.Standing.{standing, legal_more}
+use Rattle.vep_manager.proofs.Settled.{granted}
 use Rattle.vep_manager.proofs.manager.Manager.commit.Goals as goal
 
 pub keep-requires : goal.keep-requires

@@ -3,7 +3,7 @@ use Rattle.std.specs.List.{find, slice_get}
 use Rattle.std.specs.Option.{option_map}
 use Rattle.bundle_model.specs.World.{same_label}
 use Rattle.vep_manager.specs.Replies.{load_reply, fits_reply}
-use Rattle.vep_manager.proofs.Replied.{judged_found, held_found}
+use Rattle.vep_manager.proofs.Nexts.{judged_found, held_found}
 use Rattle.vep_manager.proofs.manager.Manager.load_reply.Goals as goal
 
 pub returns-in-Ok : goal.returns-in-Ok

@@ -4,7 +4,7 @@ use Rattle.std.specs.Option.{option_copied}
 use Rattle.vep_manager.specs.declared.reply.Entry.{Entry}
 use Rattle.vep_manager.specs.History.{commands_of, count_of}
 use Rattle.vep_manager.specs.Manager.{ManagerState}
-use Rattle.vep_manager.proofs.Replied.{next_is}
+use Rattle.vep_manager.proofs.Nexts.{next_is}
 use Rattle.vep_manager.proofs.manager.Manager.next.Goals as goal
 
 pub returns-clause-entry : goal.returns-clause-entry
