@@ -20,3 +20,4 @@ pub mod Fresh
 pub mod Found
 pub mod Laws
 pub mod Stretches
+pub mod Ready
