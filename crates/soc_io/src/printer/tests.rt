@@ -7,6 +7,7 @@ ghost use Rattle.std.specs.List.{flat_map};
 use crate::mem_sink::MemSink;
 use crate::printer::Printer;
 use crate::sink::{Sink, SinkFault};
+use std::alloc::Global;
 use std::test::Fail;
 
 // A text in three pieces, as callers print.
@@ -41,6 +42,24 @@ fn list<S: Sink>(sink: &mut S, marks: &[u8]) -> Result<(), SinkFault>
     printer.put(b"marks ");
     put_marks(&mut printer, marks);
     printer.finish()
+}
+
+// Prints a line around a name to a sink whose second write fails, and answers whether all of it was
+// written, and how many bytes were.
+fn put_line(alloc: Global, name: usize) -> Result<(bool, usize), Fail> {
+    let name = String::from_utf8(Vec::from_elem(alloc, b'n', name)?)?;
+    let mut sink = MemSink::new(alloc, 999, vec![in alloc; 2]?)?;
+    let mut printer = Printer::new(&mut sink);
+    printer.put_named("file ", name.as_str(), " is there\n");
+    let is_whole = printer.finish().is_ok();
+    Ok((is_whole, sink.written().len()))
+}
+
+#[test]
+fn prints_a_line_of_512_bytes_in_one_write(rt: HostRuntime) -> Result<(), Fail> {
+    assert_eq!(rt; put_line(rt.alloc(), 497)?, (true, 512));
+    assert_eq!(rt; put_line(rt.alloc(), 498)?, (false, 5));
+    Ok(())
 }
 
 #[test]
