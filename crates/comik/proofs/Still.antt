@@ -1,14 +1,10 @@
 -- A kernel that has nothing to do, and rows in which nothing is done.
-use Rattle.std.proofs.Common.{◌≡◌, ℕ, zero, suc, ◌+◌, ◌-◌, ◌<◌, ◌≤◌, ◌==◌, Bool, true, false, cond, nat_lt, List, get_or, slice_set, length, Option, Some, None, refl, sym, subst, ap, ◌∙◌, inl, inr, arith}
-use Rattle.std.proofs.lemmas.Bool.{ne_eqb, lt-ltb, le-ltb}
-use Rattle.std.proofs.lemmas.List.{set-get_or, set-set, get_or-set_same, get_or_default}
+use Rattle.std.proofs.Common.{◌≡◌, ℕ, zero, suc, ◌+◌, ◌-◌, ◌<◌, ◌≤◌, ◌==◌, Bool, true, false, cond, nat_lt, List, get_or, Option, None, refl, sym, subst, ap, ◌∙◌, arith}
 use Rattle.soc_base.specs.Steps.{after_steps}
 use Rattle.soc_base.specs.Time.{FrameTimes}
-use Rattle.soc_base.proofs.Laws.{steps_split}
 use Rattle.comik.specs.declared.context.Context.{Context}
-use Rattle.comik.specs.Context.{fresh_context, copied, copied_words}
-use Rattle.comik.specs.Kernel.{KernelState, owner_at, frame_at}
-use Rattle.comik.specs.Table.{latched, swapped, saved, restored, saved_words, restored_words, kernel_row, kernel_rows}
+use Rattle.comik.specs.Kernel.{KernelState, owner_at}
+use Rattle.comik.specs.Table.{latched, swapped, saved, restored, kernel_row, kernel_rows}
 use Rattle.comik.proofs.Switches.{state, row_still}
 
 -- nothing is held or next, and nobody owns the slot that is served

@@ -38,11 +38,21 @@ impl Model for Kernel {
     ghost Value = { KernelState };
 
     ghost view = { λ k. record {
-        times = k.times; file = k.file; frames = k.frames.items; owners = k.owners.items; held = k.held; next = k.next
+      times = k.times;
+      file = k.file;
+      frames = k.frames.items;
+      owners = k.owners.items;
+      held = k.held;
+      next = k.next;
     } };
 
     ghost invariant = { λ k. IsKernel (record {
-        times = k.times; file = k.file; frames = k.frames.items; owners = k.owners.items; held = k.held; next = k.next
+      times = k.times;
+      file = k.file;
+      frames = k.frames.items;
+      owners = k.owners.items;
+      held = k.held;
+      next = k.next;
     }) };
 }
 

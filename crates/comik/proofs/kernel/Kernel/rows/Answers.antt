@@ -1,4 +1,4 @@
-use Rattle.std.proofs.Common.{◌≡◌, ◌+◌, ◌-◌, sym, ap, ◌∙◌, arith}
+use Rattle.std.proofs.Common.{◌+◌, sym, ap, ◌∙◌, arith}
 use Rattle.comik.specs.Kernel.{KernelState}
 use Rattle.comik.specs.Table.{kernel_rows}
 use Rattle.comik.proofs.Stretches.{rows_cut}

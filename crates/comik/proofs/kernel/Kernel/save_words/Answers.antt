@@ -1,4 +1,4 @@
-use Rattle.std.proofs.Common.{◌≡◌, ◌-◌, ◌<◌, ap, subst, arith, ◌∙◌}
+use Rattle.std.proofs.Common.{◌-◌, ◌<◌, ap, subst, arith, ◌∙◌}
 use Rattle.comik.specs.Kernel.{KernelState, IsBelow}
 use Rattle.comik.specs.Table.{saved_words}
 use Rattle.comik.proofs.Stretches.{frame_saved}
