@@ -3,3 +3,4 @@ pub mod Stretches
 pub mod Merged
 pub mod Opening
 pub mod KeptLogs
+pub mod Laws

@@ -13,7 +13,8 @@ use Rattle.soc_base.proofs.Laws.{steps_split}
 use Rattle.platform_model.specs.declared.platform.Platform.{Platform}
 use Rattle.platform_model.specs.Platform.{frame_of}
 use Rattle.part_model.specs.Part.{PartState, part_cycle}
-use Rattle.alone_model.specs.App.{AppPart, AppState, place_of, part_ran, part_step, app_cycle}
+use Rattle.alone_model.specs.App.{AppPart, AppState, place_of, part_step, app_cycle}
+use Rattle.alone_model.specs.inner.Stretch.{part_ran}
 
 -- whether a part runs in a cycle, where its application was granted from cycle `start` on
 abbrev pub runs_at : Platform → ℕ → AppPart → ℕ → Bool

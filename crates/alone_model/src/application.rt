@@ -77,13 +77,21 @@ impl<'b> Application<'b> {
         self.parts.as_slice()
     }
 
+    // Does the cycles of the parts.
+    fn run_parts(&mut self, platform: &Platform, from: u64, to: u64)
+        requires ordered { from ≤ to }
+        requires bounded { to ≤ LAST_CYCLE }
+        ensures { self.new ≡ record { parts = map (after_steps (part_step platform.now from) from (to - from)) self.old.parts } }
+    {
+        run_each(self.parts.as_mut_slice(), platform, from, to);
+    }
+
     /// Does the cycles from `from` to `to - 1` of an application that was granted from cycle `from` on.
-    #[tactic(auto, using(crate::proofs::Stretches::parts_steps))]
     pub fn run(&mut self, platform: &Platform, from: u64, to: u64)
         requires ordered { from ≤ to }
         requires bounded { to ≤ LAST_CYCLE }
         ensures { self.new ≡ after_steps (app_cycle platform.now from) from (to - from) self.old }
     {
-        run_each(self.parts.as_mut_slice(), platform, from, to);
+        self.run_parts(platform, from, to);
     }
 }

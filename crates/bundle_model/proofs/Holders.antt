@@ -1,6 +1,6 @@
 -- The parts of grants that stand in one slot share nothing.
-use Rattle.std.proofs.Common.{◌≡◌, ◌≢◌, ℕ, ◌<◌, ◌⊎◌, nat_lt, ◌==◌, true, List, slice_get, find, Option, Some, None, Result, Ok, Err, Contains, IfOk, IsTrue, IsSomeAnd, sym, ap, ap₂, ◌∙◌, subst, inl, inr, arith}
-use Rattle.std.proofs.lemmas.Bool.{cases_order, and_parts, eqb-true, ltb-true, leb-true}
+use Rattle.std.proofs.Common.{◌≡◌, ◌≢◌, ℕ, ◌<◌, ◌==◌, true, List, slice_get, find, Option, Some, None, Result, Ok, Err, Contains, IfOk, refl, sym, ap, ap₂, ◌∙◌, subst, inl, inr, arith}
+use Rattle.std.proofs.lemmas.Bool.{cases_order, and_parts, and_from, eqb-true, eq-eqb}
 use Rattle.std.proofs.lemmas.Option.{none-some, same_Some, option_and_then_some}
 use Rattle.soc_base.specs.declared.label.Label.{Label}
 use Rattle.bundle_model.specs.declared.bundle.Part.{Part}
@@ -11,9 +11,10 @@ use Rattle.bundle_model.specs.declared.world.World.{World}
 use Rattle.bundle_model.specs.declared.world.LoadName.{LoadName}
 use Rattle.bundle_model.specs.declared.world.Grant.{Grant}
 use Rattle.bundle_model.specs.WellFormed.{IsWellFormedPart, IsWellFormed}
-use Rattle.bundle_model.specs.Grants.{bundle_at, kept_bundle, do_meet, lasts_to, stands_at, EndsBefore, IsApart}
+use Rattle.bundle_model.specs.Grants.{bundle_at, kept_bundle, do_meet, stands_at, IsApart}
 use Rattle.bundle_model.specs.World.{same_label, part_on, IsSoundCatalog, AreOfLoads}
-use Rattle.bundle_model.proofs.Keyed.{AreKeyed, at_place, pair_at, contained_place, found_place}
+use Rattle.bundle_model.proofs.Keyed.{AreKeyed, at_place, contained_place, found_place}
+use Rattle.bundle_model.proofs.Present.{present_now, present_unmet}
 use Rattle.bundle_model.proofs.Meeting.{AreDisjoint, HasPart, parts_disjoint}
 
 -- labels that are found to be one are one
@@ -21,6 +22,9 @@ pub same_so : (one other : Label) → same_label one other ≡ true → one ≡ 
 same_so one other same =
     let both = and_parts (one.session == other.session) (one.load == other.load) same in
     ap₂ (λ s l. record { session = s; load = l }) (eqb-true one.session other.session both.0) (eqb-true one.load other.load both.1)
+
+pub same_label-itself : (label : Label) → same_label label label ≡ true
+same_label-itself label = and_from (label.session == label.session) (label.load == label.load) (eq-eqb label.session label.session refl) (eq-eqb label.load label.load refl)
 
 kept_sound : (P : Bundle → Type 0) (judged : Result Bundle BRule) (bundle : Bundle) → IfOk judged P → kept_bundle judged ≡ Some bundle → P bundle
 kept_sound P (Ok kept) bundle sound is = subst P (same_Some kept bundle is) sound
@@ -62,22 +66,10 @@ grant_bundle loads grants at k grant load keyed of there load_there same =
     let load_is : load ≡ named = same_Some load named (sym load_there ∙ ap (slice_get loads) one ∙ contained.1) in
     sym (ap (λ (l : LoadName). l.bundle) load_is)
 
--- grants that stand in one slot don't end before one another begins
-not_before : (slot start : ℕ) (end : Option ℕ) → lasts_to slot end ≡ true → start < slot → IsSomeAnd end (λ e. e < start) → ⊥
-not_before slot start None lasts begun before = before
-not_before slot start (Some end) lasts begun before = let later = leb-true slot end lasts in omega arith
-
-not_over : (slot : ℕ) (one other : Grant) → stands_at slot one ≡ true → stands_at slot other ≡ true → EndsBefore one other → ⊥
-not_over slot one other one_stands other_stands =
-    not_before slot other.start one.end (and_parts (nat_lt one.start slot) (lasts_to slot one.end) one_stands).1 (ltb-true other.start slot (and_parts (nat_lt other.start slot) (lasts_to slot other.end) other_stands).0)
-
--- nor do their resources meet
+-- the resources of grants that stand in one slot don't meet
 pub unmet : (world : World) (grants : List Grant) (slot i j : ℕ) (one other : Grant) → IsApart world grants → i < j → slice_get grants i ≡ Some one → slice_get grants j ≡ Some other → stands_at slot one ≡ true → stands_at slot other ≡ true → do_meet world one other ≡ true → ⊥
 unmet world grants slot i j one other apart before at_i at_j one_stands other_stands meet =
-    elim (pair_at (λ (a b : Grant). IsTrue (do_meet world a b) → EndsBefore a b ⊎ EndsBefore b a) grants i j one other apart.apart before at_i at_j meet) [
-      | inl first ↦ not_over slot one other one_stands other_stands first
-      | inr last ↦ not_over slot other one other_stands one_stands last
-    ]
+    present_unmet world grants slot i j one other apart before (present_now grants slot i one at_i one_stands) (present_now grants slot j other at_j other_stands) meet
 
 disjoint_sym : (one other : Part) → AreDisjoint one other → AreDisjoint other one
 disjoint_sym one other apart = record {

@@ -1,5 +1,5 @@
 -- Lists whose items have different keys, and what is found in a list.
-use Rattle.std.proofs.Common.{◌≡◌, ◌≢◌, ℕ, zero, suc, ◌+◌, ◌<◌, Bool, true, false, cond, List, [], ◌∷◌, find, slice_get, get_or, AllPairs, All, Contains, Some, None, refl, sym, ap, ◌∙◌, subst, inl, inr, arith}
+use Rattle.std.proofs.Common.{◌≡◌, ◌≢◌, ℕ, zero, suc, ◌+◌, ◌<◌, Bool, true, false, cond, List, [], ◌∷◌, filter, find, slice_get, get_or, AllPairs, All, Contains, Some, None, refl, sym, ap, ◌∙◌, subst, inl, inr, arith}
 use Rattle.std.proofs.lemmas.Bool.{cases_order, cases_Bool, false_from_ne_true, cond-true, cond-false}
 use Rattle.std.proofs.lemmas.Option.{none-some, same_Some, slice_get_within, slice_get-get_or, get_or_from_slice_get}
 
@@ -54,3 +54,46 @@ found_at test (y ∷ xs) (suc k) x there passes alone =
 pub none_found : {X : Type 0} (test : X → Bool) (xs : List X) → ((k : ℕ) (x : X) → slice_get xs k ≡ Some x → test x ≡ false) → find test xs ≡ None
 none_found test [] fails = refl
 none_found test (x ∷ xs) fails = cond-false (test x) (Some x) (find test xs) (fails zero x refl) ∙ none_found test xs (λ k y at. fails (suc k) y at)
+
+-- what passes of a list is of the list
+filtered_by : {X : Type 0} (test : X → Bool) (x : X) (xs : List X) (b : Bool) (k : ℕ) (y : X) → test x ≡ b → ((j : ℕ) → slice_get (filter test xs) j ≡ Some y → (i : ℕ) × (slice_get xs i ≡ Some y) × (test y ≡ true)) → slice_get (cond b (x ∷ filter test xs) (filter test xs)) k ≡ Some y → (i : ℕ) × (slice_get (x ∷ xs) i ≡ Some y) × (test y ≡ true)
+filtered_by test x xs false k y is rest there = let at = rest k there in (suc at.0, at.1, at.2)
+filtered_by test x xs true zero y is rest there = (zero, there, ap test (sym (same_Some x y there)) ∙ is)
+filtered_by test x xs true (suc k) y is rest there = let at = rest k there in (suc at.0, at.1, at.2)
+
+pub filtered_place : {X : Type 0} (test : X → Bool) (xs : List X) (k : ℕ) (y : X) → slice_get (filter test xs) k ≡ Some y → (i : ℕ) × (slice_get xs i ≡ Some y) × (test y ≡ true)
+filtered_place test [] k y there = absurd (none-some y there)
+filtered_place test (x ∷ xs) k y there = filtered_by test x xs (test x) k y refl (λ j at. filtered_place test xs j y at) there
+
+-- and what passes is there
+filtered_behind : {X : Type 0} (b : Bool) (x y : X) (ys : List X) → (k : ℕ) × (slice_get ys k ≡ Some y) → (k : ℕ) × (slice_get (cond b (x ∷ ys) ys) k ≡ Some y)
+filtered_behind true x y ys (k, there) = (suc k, there)
+filtered_behind false x y ys at = at
+
+pub filtered_at : {X : Type 0} (test : X → Bool) (xs : List X) (i : ℕ) (x : X) → slice_get xs i ≡ Some x → test x ≡ true → (k : ℕ) × (slice_get (filter test xs) k ≡ Some x)
+filtered_at test [] i x there passes = absurd (none-some x there)
+filtered_at test (y ∷ xs) zero x there passes =
+    let here : test y ≡ true = ap test (same_Some y x there) ∙ passes in
+    (zero, ap (λ b. slice_get (cond b (y ∷ filter test xs) (filter test xs)) zero) here ∙ there)
+filtered_at test (y ∷ xs) (suc i) x there passes = filtered_behind (test y) y x (filter test xs) (filtered_at test xs i x there passes)
+
+-- an item in front of items with other keys
+cons_keyed : {X K : Type 0} (key : X → K) (x : X) (xs : List X) → AreKeyed key xs → ((k : ℕ) (z : X) → slice_get xs k ≡ Some z → key x ≡ key z → ⊥) → AreKeyed key (x ∷ xs)
+cons_keyed key x xs rest differs zero zero a b at_i at_j same = refl
+cons_keyed key x xs rest differs zero (suc j) a b at_i at_j same = absurd (differs j b at_j (ap key (same_Some x a at_i) ∙ same))
+cons_keyed key x xs rest differs (suc i) zero a b at_i at_j same = absurd (differs i a at_i (ap key (same_Some x b at_j) ∙ sym same))
+cons_keyed key x xs rest differs (suc i) (suc j) a b at_i at_j same = ap (λ n. suc n) (rest i j a b at_i at_j same)
+
+filtered_cons : {X K : Type 0} (key : X → K) (test : X → Bool) (x : X) (xs : List X) (b : Bool) → AreKeyed key (x ∷ xs) → AreKeyed key (filter test xs) → AreKeyed key (cond b (x ∷ filter test xs) (filter test xs))
+filtered_cons key test x xs false keyed rest = rest
+filtered_cons key test x xs true keyed rest = cons_keyed key x (filter test xs) rest (λ k z there same.
+    let at = filtered_place test xs k z there in
+    let one : zero ≡ suc at.0 = keyed zero (suc at.0) x z refl at.1 same in
+    omega arith)
+
+-- what passes of a list has different keys, where the list has
+pub filtered_keyed : {X K : Type 0} (key : X → K) (test : X → Bool) (xs : List X) → AreKeyed key xs → AreKeyed key (filter test xs)
+filtered_keyed key test [] keyed = λ i j x y at_i at_j same. absurd (none-some x at_i)
+filtered_keyed key test (x ∷ xs) keyed =
+    let later : AreKeyed key xs = λ i j y z at_i at_j same. let one : suc i ≡ suc j = keyed (suc i) (suc j) y z at_i at_j same in omega arith in
+    filtered_cons key test x xs (test x) keyed (filtered_keyed key test xs later)
