@@ -52,7 +52,8 @@ AreInLine out into =
 
 -- Of ends that are in line, the flits taken are the first of the idle flit and those set.
 abbrev pub TakenComeFirst : Type 0
-TakenComeFirst = (out : LinkOut) (into : LinkIn) → AreInLine out into → IsPrefix (flits_taken into) (idle ∷ flits_set out)
+TakenComeFirst =
+    (out : LinkOut) (into : LinkIn) → AreInLine out into → IsPrefix (flits_taken into) (idle ∷ flits_set out)
 
 -- a writing end into which nothing was set, of a ring of 64 places
 pub record IsNewOut (out : LinkOut) : Type 0 where
