@@ -9,7 +9,9 @@ ghost use Rattle.platform_model.specs.Platform.{raw_of};
 ghost use Rattle.platform_file.specs.Reading.{passes, link_of, costs_of, platform_of, least_rule, MeansPlatform, Breaks, Gives};
 
 use crate::format::{cost_keys, link_keys, top_keys};
-use platform_model::{DEFAULT_COSTS, PRule, Platform, PlatformFault, RawCosts, RawLink, RawPlatform};
+use platform_model::{
+    DEFAULT_COSTS, PRule, Platform, PlatformFault, RawCosts, RawLink, RawPlatform,
+};
 use soc_base::{Items, NoMemory};
 use std::alloc::Global;
 use toml::Table;

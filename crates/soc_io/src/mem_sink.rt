@@ -28,11 +28,11 @@ impl Model for MemSink {
     ghost Value = { Tape };
 
     ghost view = { λ m. record {
-        given = m.bytes.items;
-        room = m.space;
-        fails = m.failing.items;
-        calls = m.writes;
-        faults = m.count;
+      given = m.bytes.items;
+      room = m.space;
+      fails = m.failing.items;
+      calls = m.writes;
+      faults = m.count;
     } };
 
     ghost invariant = { λ m. (m.space ≤ vec_capacity m.bytes) × (vec_len m.bytes ≤ m.space) };
