@@ -1,2 +1,4 @@
 pub mod RoundTrip
 pub mod StepLemmas
+pub mod Shapes
+pub mod Laws
