@@ -97,7 +97,7 @@ impl Tile {
     ghost use Rattle.bundle_model.specs.World.{IsSoundWorld};
     ghost use Rattle.tile_core.specs.Tile.{fresh_tile, log_of, owner_of};
     ghost use Rattle.tile_core.specs.Slot.{tile_slot, slot_outputs};
-    ghost use Rattle.tile_core.specs.Fit.{IsMadeFor, IsFit, IsReady};
+    ghost use Rattle.tile_core.specs.Fit.{IsMadeFor, IsFit, IsUnderway, IsReady};
 
     /// Makes a tile of a world, counted from 0, before its first slot, and takes all its memory: its own, a
     /// frame for each partition slot, and a log for each load with a part on it. The loads are those of
@@ -123,6 +123,38 @@ impl Tile {
             names,
             part_logs,
         })
+    }
+
+    // Does what happens in the next slot.
+    #[tactic(auto, using(crate::proofs::Ready::settled_tile), unfolding(crate::specs::Slot::tile_slot))]
+    fn advance(&mut self, world: &World, schedule: &Schedule)
+        requires underway { IsUnderway world.now schedule.now self.old }
+        requires bounded { (self.old.at + 1) * world.now.platform.slot_cycles < 2 ^ 64 }
+        requires counted { self.old.at + 1 < 2 ^ 64 }
+        ensures { self.new ≡ tile_slot world.now schedule.now.grants.items self.old }
+    {
+        let next = self.slot + 1;
+        self.settle(world, schedule);
+        self.cycles(world);
+        self.slot = next;
+    }
+
+    /// Does the tile's next slot by a schedule that agrees with those of earlier slots and whose horizon
+    /// is above the slot. Takes what its links bring in the slot, by the router's inputs 0 to 6, and
+    /// answers what it puts on its outputs 0 to 6 for the next one: for now no input is read and every
+    /// output is idle. Takes no memory.
+    pub fn slot(&mut self, world: &World, schedule: &Schedule, _inputs: &[Flit; 7]) -> [Flit; 7]
+        requires { IsReady world.now schedule.now self.old }
+        ensures slot { self.new ≡ tile_slot world.now schedule.now.grants.items self.old }
+        ensures outputs { result ≡ slot_outputs }
+        ensures fits { IsFit world.now schedule.now.grants.items self.new }
+        ensures made { (loads : List LoadName) → IsMadeFor world.now loads self.old → IsMadeFor world.now loads self.new }
+    {
+        self.advance(world, schedule);
+        [Flit {
+            word: None,
+            credits: 0,
+        }; 7]
     }
 
     /// Answers the tile's next slot.

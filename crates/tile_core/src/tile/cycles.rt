@@ -1,7 +1,9 @@
 //! The cycles of a slot, in stretches: a slot is shorter than the microkernel's cycles of an instance, so
 //! it has rows of the microkernel, then cycles of one part, and then rows of the next instance at most.
 
-ghost use Rattle.std.specs.Prelude.{◌≡◌, ◌+◌, ◌*◌, ◌^◌, ◌<◌, ◌≤◌, length};
+ghost use Rattle.std.specs.Prelude.{◌≡◌, ◌+◌, ◌-◌, ◌*◌, ◌^◌, ◌<◌, ◌≤◌, length};
+ghost use Rattle.soc_base.specs.Time.{instance_cycles};
+ghost use Rattle.comik.specs.Places.{IsPlace};
 ghost use Rattle.comik.specs.Table.{kernel_rows};
 ghost use Rattle.tile_memory.specs.Bytes.{IsInside, with_region};
 ghost use Rattle.tile_core.specs.Cycle.{words_of};
@@ -9,7 +11,7 @@ ghost use Rattle.tile_core.specs.inner.Stretch.{part_in, ran};
 
 use super::Tile;
 use bundle_model::{Part, World};
-use comik::{FramePlace, Kernel, frame_place, place_after};
+use comik::{Frame, FramePlace, Kernel, frame_place, place_after};
 use part_model::Place;
 use platform_model::Costs;
 use rv_core::Regs;
@@ -79,10 +81,28 @@ fn run(
     );
 }
 
+// How many cycles are left of the microkernel's at a place.
+fn kernel_left(frame: &Frame, at: FramePlace) -> u32
+    ensures { result ≡ frame.now.kernel - at.offset }
+{
+    u32::from(frame.kernel).saturating_sub(at.offset)
+}
+
+// How many cycles are left of the instance at a place.
+fn instance_left(frame: &Frame, at: FramePlace) -> u32
+    requires { IsPlace frame.now at }
+    ensures { result ≡ instance_cycles frame.now - at.offset }
+{
+    u32::from(frame.kernel) + frame.partition - at.offset
+}
+
 impl Tile {
     ghost use Rattle.std.specs.Prelude.{Some};
-    ghost use Rattle.comik.specs.Places.{IsPlace};
+    ghost use Rattle.soc_base.specs.declared.limits.TheConstants.{MOST_SLOT_CYCLES};
+    ghost use Rattle.soc_base.specs.Steps.{after_steps};
+    ghost use Rattle.comik.specs.Places.{frame_place};
     ghost use Rattle.tile_core.specs.Tile.{load_part};
+    ghost use Rattle.tile_core.specs.Cycle.{tile_cycle};
     ghost use Rattle.tile_core.specs.Slot.{with_cycles};
     ghost use Rattle.tile_core.specs.inner.Stretch.{ran_part, ran_held};
     ghost use Rattle.tile_core.specs.inner.Ready.{IsSoundTile};
@@ -131,5 +151,39 @@ impl Tile {
             return;
         };
         self.run_part(&world.platform.costs, part, place, cycle, count);
+    }
+
+    // Does `count` cycles from one on, whose place in the frame is `at`.
+    fn stretches(&mut self, world: &World, frame: &Frame, at: FramePlace, from: u64, count: u32)
+        requires tile { IsSoundTile world.now self.old }
+        requires frame { frame.now ≡ self.old.kernel.times }
+        requires place { at ≡ frame_place frame.now from }
+        requires valid { IsPlace frame.now at }
+        requires short { count ≤ MOST_SLOT_CYCLES }
+        requires bounded { from + count < 2 ^ 64 }
+        ensures { self.new ≡ after_steps (tile_cycle (load_part world.now self.old) world.now.platform.costs) from count self.old }
+    {
+        let first = count.min(kernel_left(frame, at));
+        self.rows(at, first);
+        let next = place_after(frame, at, first);
+
+        let second = (count - first).min(instance_left(frame, next));
+        self.run_held(world, from + u64::from(first), u64::from(second));
+        let last = place_after(frame, next, second);
+
+        self.rows(last, count - first - second);
+    }
+
+    // Does the cycles of the next slot.
+    pub(super) fn cycles(&mut self, world: &World)
+        requires tile { IsSoundTile world.now self.old }
+        requires bounded { (self.old.at + 1) * world.now.platform.slot_cycles < 2 ^ 64 }
+        ensures { self.new ≡ with_cycles world.now self.old }
+    {
+        let frame = self.microkernel.frame();
+        let count = u32::from(world.platform.slot_cycles);
+        let from = self.slot * u64::from(count);
+        let at = frame_place(&frame, from);
+        self.stretches(world, &frame, at, from, count);
     }
 }

@@ -28,7 +28,17 @@ fn begins_in(grant: &Grant, slot: u64) -> bool
         }
 }
 
+// Whether no grant ends or begins in a slot.
+fn is_quiet(grants: &[Grant], slot: u64) -> bool
+    ensures { result ≡ list_all (λ grant. not (ends_in slot grant) && not (begins_in slot grant)) grants.now }
+{
+    grants
+        .iter()
+        .all(|grant| !ends_in(grant, slot) && !begins_in(grant, slot))
+}
+
 impl Tile {
+    ghost use Rattle.std.specs.Prelude.{true};
     ghost use Rattle.tile_core.specs.Tile.{number_of};
     ghost use Rattle.tile_core.specs.Slot.{removed, after_end, with_ends, installed, after_start, with_starts};
     ghost use Rattle.tile_core.specs.Fit.{IsUnderway};
@@ -80,5 +90,60 @@ impl Tile {
             return;
         };
         self.install(place, part);
+    }
+
+    // Ends a grant, if it ends in the slot.
+    fn end_if(&mut self, world: &World, grant: &Grant, slot: u64)
+        requires { ends_in slot grant.now ≡ true → CanEnd world.now self.old grant.now }
+        ensures { self.new ≡ (if ends_in slot grant.now then after_end world.now self.old grant.now else self.old) }
+    {
+        if ends_in(grant, slot) {
+            self.end_grant(world, grant);
+        }
+    }
+
+    // Ends each grant that ends in the next slot.
+    fn end_grants(&mut self, world: &World, schedule: &Schedule)
+        requires { IsUnderway world.now schedule.now self.old }
+        ensures { self.new ≡ with_ends world.now schedule.now.grants.items self.old }
+    {
+        let slot = self.slot;
+        for grant in schedule.grants.as_slice() {
+            self.end_if(world, grant, slot);
+        }
+    }
+
+    // Begins a grant, if it begins in the slot.
+    fn begin_if(&mut self, world: &World, grant: &Grant, slot: u64)
+        requires { begins_in slot grant.now ≡ true → CanBegin world.now self.old grant.now }
+        ensures { self.new ≡ (if begins_in slot grant.now then after_start world.now self.old grant.now else self.old) }
+    {
+        if begins_in(grant, slot) {
+            self.begin_grant(world, grant);
+        }
+    }
+
+    // Begins each grant that begins in the next slot.
+    fn begin_grants(&mut self, world: &World, schedule: &Schedule)
+        requires { HasEnded world.now schedule.now self.old }
+        ensures { self.new ≡ with_starts world.now schedule.now.grants.items self.old }
+    {
+        let slot = self.slot;
+        for grant in schedule.grants.as_slice() {
+            self.begin_if(world, grant, slot);
+        }
+    }
+
+    // Ends and begins the grants that do in the next slot.
+    #[tactic(auto, using(crate::proofs::Ready::quiet_same, crate::proofs::Ready::ended_ready))]
+    pub(super) fn settle(&mut self, world: &World, schedule: &Schedule)
+        requires { IsUnderway world.now schedule.now self.old }
+        ensures { self.new ≡ with_starts world.now schedule.now.grants.items (with_ends world.now schedule.now.grants.items self.old) }
+    {
+        if is_quiet(schedule.grants.as_slice(), self.slot) {
+            return;
+        }
+        self.end_grants(world, schedule);
+        self.begin_grants(world, schedule);
     }
 }
