@@ -18,6 +18,3 @@ pub use Rattle.tile_core.proofs.Settling.{own_grant}
 
 -- what a tile answers of the load at a place
 pub use Rattle.tile_core.proofs.Found.{place_is, grant_place, no_grant_place, log_found, state_found, state_none}
-
--- what a cycle of a part keeps: the size of its region
-pub use Rattle.tile_core.proofs.Sizes.{cycle_keeps}

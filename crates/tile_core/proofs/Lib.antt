@@ -1,14 +1,12 @@
 pub mod Memory
 pub mod Installed
 pub mod Frames
-pub mod Sizes
 pub mod Shapes
 pub mod Holding
 pub mod Coming
 pub mod Going
 pub mod Standing
 pub mod Sites
-pub mod Lists
 pub mod Folding
 pub mod Rooms
 pub mod Starting
@@ -21,3 +19,4 @@ pub mod Found
 pub mod Laws
 pub mod Stretches
 pub mod Ready
+mod Pairs

@@ -14,7 +14,7 @@ use Rattle.bundle_model.specs.World.{part_on, IsSoundCatalog}
 use Rattle.bundle_model.specs.WellFormed.{IsWellFormedPart}
 use Rattle.bundle_model.proofs.Laws.{is_part_on}
 use Rattle.tile_memory.specs.Bytes.{IsInside, filled_bytes}
-use Rattle.tile_memory.proofs.Regions.{length-with_region, length-filled_bytes, length-region_bytes}
+use Rattle.tile_memory.proofs.Laws.{length-with_region, length-filled_bytes, length-region_bytes}
 use Rattle.part_model.specs.Part.{PartState, part_cycle}
 use Rattle.comik.specs.Kernel.{without}
 use Rattle.comik.specs.Table.{kernel_cycle}
@@ -24,7 +24,7 @@ use Rattle.tile_core.specs.Tile.{TileState, number_of, place_at, load_part, load
 use Rattle.tile_core.specs.Cycle.{core_place, held_state, with_state, run_part, run_place, run_held, tile_cycle}
 use Rattle.tile_core.specs.Slot.{ends_in, begins_in, removed, removed_if, after_end, with_ends, installed, installed_if, installed_at, after_start, with_starts, with_cycles, tile_slot}
 use Rattle.tile_core.specs.Fit.{IsMadeFor}
-use Rattle.tile_core.proofs.Sizes.{cycle_keeps as bytes_kept}
+use Rattle.part_model.proofs.Laws.{cycle_size as bytes_kept}
 
 -- the frame of a platform
 pub frame_is : (world : World) → IsFrame (frame_of world.platform)

@@ -16,7 +16,7 @@ use Rattle.bundle_model.specs.declared.world.World.{World}
 use Rattle.bundle_model.specs.declared.world.LoadName.{LoadName}
 use Rattle.bundle_model.specs.World.{part_on, IsSoundCatalog}
 use Rattle.tile_memory.specs.Bytes.{IsInside, region_bytes, with_region}
-use Rattle.tile_memory.proofs.Regions.{take-with_region, drop-with_region, region-with_region, length-region_bytes}
+use Rattle.tile_memory.proofs.Laws.{take-with_region, drop-with_region, region-with_region, length-region_bytes}
 use Rattle.trace_log.specs.Log.{Log, new_log}
 use Rattle.part_model.specs.Part.{PartState, part_cycle}
 use Rattle.comik.specs.declared.place.FramePlace.{FramePlace}
@@ -30,7 +30,7 @@ use Rattle.tile_core.specs.Slot.{with_cycles}
 use Rattle.tile_core.specs.Fit.{IsMadeFor}
 use Rattle.tile_core.specs.inner.Stretch.{ran, ran_part, ran_place, ran_held}
 use Rattle.tile_core.proofs.Memory.{joined_region}
-use Rattle.tile_core.proofs.Sizes.{cycle_keeps as bytes_kept}
+use Rattle.part_model.proofs.Laws.{cycle_size as bytes_kept}
 use Rattle.tile_core.specs.inner.Ready.{IsSoundTile}
 use Rattle.tile_core.proofs.Made.{frame_is, load_part_inside, IsAlike, made_alike, parts_alike, cycles_kept}
 

@@ -15,6 +15,10 @@ mod station;
 /// A tile, slot by slot.
 mod tile;
 
+/// Tiles followed by hand.
+#[cfg(test)]
+mod tests;
+
 
 pub use law::tile_holds;
 pub use station::Station;

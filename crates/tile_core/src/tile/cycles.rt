@@ -5,13 +5,12 @@ ghost use Rattle.std.specs.Prelude.{◌≡◌, ◌+◌, ◌-◌, ◌*◌, ◌^�
 ghost use Rattle.soc_base.specs.Time.{instance_cycles};
 ghost use Rattle.comik.specs.Places.{IsPlace};
 ghost use Rattle.comik.specs.Table.{kernel_rows};
-ghost use Rattle.tile_memory.specs.Bytes.{IsInside, with_region};
-ghost use Rattle.tile_core.specs.Cycle.{words_of};
-ghost use Rattle.tile_core.specs.inner.Stretch.{part_in, ran};
+ghost use Rattle.tile_memory.specs.Bytes.{IsInside};
+ghost use Rattle.tile_core.specs.inner.Stretch.{ran_in, memory_ran};
 
 use super::Tile;
 use bundle_model::{Part, World};
-use comik::{Frame, FramePlace, Kernel, frame_place, place_after};
+use comik::{Frame, FramePlace, frame_place, place_after};
 use part_model::Place;
 use platform_model::Costs;
 use rv_core::Regs;
@@ -21,7 +20,7 @@ use trace_log::PartLog;
 
 // Does `count` cycles of a part with these registers and cycles left.
 #[tactic(auto, using(crate::proofs::Memory::joined_region))]
-fn run_words(
+fn run(
     costs: &Costs,
     part: &Part,
     cycle: u64,
@@ -33,10 +32,10 @@ fn run_words(
 )
     requires inside { IsInside memory.old part.now.region }
     requires bounded { cycle + count ≤ 2 ^ 64 }
-    ensures regs { regs.new ≡ (ran costs.now cycle count part.now (part_in regs.old left.old memory.old log.old part.now)).regs }
-    ensures left { left.new ≡ (ran costs.now cycle count part.now (part_in regs.old left.old memory.old log.old part.now)).left }
-    ensures memory { memory.new ≡ with_region memory.old part.now.region (ran costs.now cycle count part.now (part_in regs.old left.old memory.old log.old part.now)).bytes }
-    ensures log { log.new ≡ (ran costs.now cycle count part.now (part_in regs.old left.old memory.old log.old part.now)).log }
+    ensures regs { regs.new ≡ (ran_in costs.now cycle count part.now regs.old left.old memory.old log.old).regs }
+    ensures left { left.new ≡ (ran_in costs.now cycle count part.now regs.old left.old memory.old log.old).left }
+    ensures memory { memory.new ≡ memory_ran costs.now cycle count part.now regs.old left.old memory.old log.old }
+    ensures log { log.new ≡ (ran_in costs.now cycle count part.now regs.old left.old memory.old log.old).log }
 {
     let place = Place {
         tile: part.tile,
@@ -50,35 +49,6 @@ fn run_words(
         log,
     };
     running.run(costs, place, cycle, count);
-}
-
-// Does `count` cycles of a part whose words are in the register file.
-fn run(
-    costs: &Costs,
-    part: &Part,
-    cycle: u64,
-    count: u64,
-    kernel: &mut Kernel,
-    memory: &mut TileMemory,
-    log: &mut PartLog,
-)
-    requires inside { IsInside memory.old part.now.region }
-    requires bounded { cycle + count ≤ 2 ^ 64 }
-    ensures kernel { kernel.new ≡ record kernel.old { file = words_of (ran costs.now cycle count part.now (part_in kernel.old.file.regs kernel.old.file.left memory.old log.old part.now)) } }
-    ensures memory { memory.new ≡ with_region memory.old part.now.region (ran costs.now cycle count part.now (part_in kernel.old.file.regs kernel.old.file.left memory.old log.old part.now)).bytes }
-    ensures log { log.new ≡ (ran costs.now cycle count part.now (part_in kernel.old.file.regs kernel.old.file.left memory.old log.old part.now)).log }
-{
-    let context = kernel.context();
-    run_words(
-        costs,
-        part,
-        cycle,
-        count,
-        &mut context.regs,
-        &mut context.left,
-        memory,
-        log,
-    );
 }
 
 // How many cycles are left of the microkernel's at a place.
@@ -99,12 +69,9 @@ fn instance_left(frame: &Frame, at: FramePlace) -> u32
 impl Tile {
     ghost use Rattle.std.specs.Prelude.{Some};
     ghost use Rattle.soc_base.specs.declared.limits.TheConstants.{MOST_SLOT_CYCLES};
-    ghost use Rattle.soc_base.specs.Steps.{after_steps};
     ghost use Rattle.comik.specs.Places.{frame_place};
-    ghost use Rattle.tile_core.specs.Tile.{load_part};
-    ghost use Rattle.tile_core.specs.Cycle.{tile_cycle};
-    ghost use Rattle.tile_core.specs.Slot.{with_cycles};
-    ghost use Rattle.tile_core.specs.inner.Stretch.{ran_part, ran_held};
+    ghost use Rattle.tile_core.specs.Slot.{cycled, with_cycles};
+    ghost use Rattle.tile_core.specs.inner.Stretch.{ran_part, held_ran};
     ghost use Rattle.tile_core.specs.inner.Ready.{IsSoundTile};
 
     // Does the microkernel's rows for `count` cycles of one instance.
@@ -122,12 +89,14 @@ impl Tile {
         requires bounded { cycle + count ≤ 2 ^ 64 }
         ensures { self.new ≡ ran_part costs.now cycle count self.old place (Some part.now) }
     {
+        let context = self.microkernel.context();
         run(
             costs,
             part,
             cycle,
             count,
-            &mut self.microkernel,
+            &mut context.regs,
+            &mut context.left,
             &mut self.bytes,
             &mut self.part_logs[place],
         );
@@ -138,7 +107,7 @@ impl Tile {
     fn run_held(&mut self, world: &World, cycle: u64, count: u64)
         requires tile { IsSoundTile world.now self.old }
         requires bounded { cycle + count ≤ 2 ^ 64 }
-        ensures { self.new ≡ ran_held (load_part world.now self.old) world.now.platform.costs cycle count self.old self.old.kernel.held }
+        ensures { self.new ≡ held_ran world.now cycle count self.old }
     {
         let Some(number) = self.microkernel.held() else {
             return;
@@ -161,7 +130,7 @@ impl Tile {
         requires valid { IsPlace frame.now at }
         requires short { count ≤ MOST_SLOT_CYCLES }
         requires bounded { from + count < 2 ^ 64 }
-        ensures { self.new ≡ after_steps (tile_cycle (load_part world.now self.old) world.now.platform.costs) from count self.old }
+        ensures { self.new ≡ cycled world.now from count self.old }
     {
         let first = count.min(kernel_left(frame, at));
         self.rows(at, first);

@@ -40,7 +40,7 @@ fn is_quiet(grants: &[Grant], slot: u64) -> bool
 impl Tile {
     ghost use Rattle.std.specs.Prelude.{true};
     ghost use Rattle.tile_core.specs.Tile.{number_of};
-    ghost use Rattle.tile_core.specs.Slot.{removed, after_end, with_ends, installed, after_start, with_starts};
+    ghost use Rattle.tile_core.specs.Slot.{removed, after_end, with_ends, installed, after_start, with_starts, with_grants};
     ghost use Rattle.tile_core.specs.Fit.{IsUnderway};
     ghost use Rattle.tile_core.specs.inner.Ready.{CanLeave, CanCome, CanEnd, CanBegin, HasEnded};
 
@@ -138,7 +138,7 @@ impl Tile {
     #[tactic(auto, using(crate::proofs::Ready::quiet_same, crate::proofs::Ready::ended_ready))]
     pub(super) fn settle(&mut self, world: &World, schedule: &Schedule)
         requires { IsUnderway world.now schedule.now self.old }
-        ensures { self.new ≡ with_starts world.now schedule.now.grants.items (with_ends world.now schedule.now.grants.items self.old) }
+        ensures { self.new ≡ with_grants world.now schedule.now.grants.items self.old }
     {
         if is_quiet(schedule.grants.as_slice(), self.slot) {
             return;
