@@ -9,12 +9,14 @@ use Rattle.std.proofs.lemmas.Bool.Decides.{Decides-int_eq}
 use Rattle.std.proofs.lemmas.Int.{ints}
 use Rattle.std.proofs.lemmas.List.Elements.{All-nil, All-cons}
 use Rattle.platform_model.specs.Limits.{is_within, is_multiple}
-use Rattle.platform_model.specs.Twins.{has_twin}
+use Rattle.soc_base.specs.Twins.{has_twin}
+use Rattle.soc_base.specs.declared.limits.TheConstants.{MOST_ROWS}
 use Rattle.platform_model.specs.declared.platform.Platform.{Platform}
-use Rattle.platform_model.proofs.Passing.{passed_over, neither}
-use Rattle.platform_model.proofs.Ranges.{no_remainder}
+use Rattle.platform_model.proofs.Laws.{passed_over, neither, no_remainder}
 use Rattle.soc_base.specs.Slots.{slots_of}
-use Rattle.bundle_model.specs.Sets.{slot_set, names, word_kind, send_kind, recv_kind, step_kind}
+use Rattle.bundle_model.specs.Sets.{slot_set, names}
+use Rattle.trace_log.specs.Kinds.{kind_text}
+use Rattle.trace_log.specs.declared.row.Kind.TheVariants.{Word, Send, Recv, Step}
 use Rattle.bundle_model.specs.Rules.{is_empty, has_tile, shares_tile, is_slot, ascends, has_slots, has_region, image_fits, has_image, has_entry, is_kind, has_trace, has_ports, breaks, first_rule}
 use Rattle.bundle_model.specs.Bundle.{part_of, pair_of, bundle_of}
 use Rattle.bundle_model.specs.WellFormed.{IsWellFormedPart, IsWellFormed}
@@ -140,8 +142,8 @@ entry_in_region (pos entry) (negsuc len) kept =
 entry_in_region (negsuc entry) (negsuc len) kept = cc
 
 -- a count of rows
-trace_kept : (trace : ℤ) → is_within trace (pos 0) (pos 4096) ≡ true → nat_abs trace ≤ 4096
-trace_kept (pos trace) kept = leb-true trace 4096 (and_parts (int_le (pos 0) (pos trace)) (int_le (pos trace) (pos 4096)) kept).1
+trace_kept : (trace : ℤ) → is_within trace (pos 0) (pos MOST_ROWS) ≡ true → nat_abs trace ≤ MOST_ROWS
+trace_kept (pos trace) kept = leb-true trace MOST_ROWS (and_parts (int_le (pos 0) (pos trace)) (int_le (pos trace) (pos MOST_ROWS)) kept).1
 trace_kept (negsuc trace) kept = cc
 
 -- a set of kinds
@@ -171,8 +173,8 @@ part_kept : (platform : Platform) (part : RawPart) → KeptPart platform part �
 part_kept platform part kept =
     let slots = slots_kept platform part kept.slots in
     let region = region_kept part.base part.len platform.mem_bytes kept.region in
-    let traced = and_parts (is_within part.trace (pos 0) (pos 4096) && list_all is_kind part.kinds) (not (has_twin bytes_eq part.kinds)) kept.trace in
-    let rows = and_parts (is_within part.trace (pos 0) (pos 4096)) (list_all is_kind part.kinds) traced.0 in
+    let traced = and_parts (is_within part.trace (pos 0) (pos MOST_ROWS) && list_all is_kind part.kinds) (not (has_twin bytes_eq part.kinds)) kept.trace in
+    let rows = and_parts (is_within part.trace (pos 0) (pos MOST_ROWS)) (list_all is_kind part.kinds) traced.0 in
     let entry = entry_in_region part.entry part.len kept.entry in
     let some : slots_of (slot_set part.slots) ≢ [] = rw slots.0 slots.1 in
     let exist : All (λ slot. slot < platform.partition_slots) (slots_of (slot_set part.slots)) = rw slots.0 slots.2 in
@@ -188,7 +190,7 @@ part_kept platform part kept =
       entry_aligned = entry.0;
       entry_inside = entry.1;
       trace_fits = trace_kept part.trace rows.0;
-      kinds_exist = kinds_below (names part.kinds word_kind) (names part.kinds send_kind) (names part.kinds recv_kind) (names part.kinds step_kind);
+      kinds_exist = kinds_below (names part.kinds (kind_text Word)) (names part.kinds (kind_text Send)) (names part.kinds (kind_text Recv)) (names part.kinds (kind_text Step));
       no_ports = none_there nat_abs part.ports (not-false (is_empty part.ports) kept.no_ports);
     }
 

@@ -9,6 +9,7 @@ use Rattle.bundle_model.specs.declared.world.World.{World}
 use Rattle.bundle_model.specs.declared.world.Grant.{Grant}
 use Rattle.bundle_model.specs.declared.rules.BRule.{BRule}
 
+-- the bundle of a file that breaks no rule
 abbrev pub kept_bundle : Result Bundle BRule → Option Bundle
 kept_bundle (Ok bundle) = Some bundle
 kept_bundle (Err rule) = None

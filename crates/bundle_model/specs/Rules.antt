@@ -5,14 +5,17 @@ use Rattle.std.specs.List.{list_any, list_all, find}
 use Rattle.std.specs.Ordering.{int_eq}
 use Rattle.std.specs.Str.{bytes_eq}
 use Rattle.platform_model.specs.Limits.{is_within, is_multiple}
-use Rattle.platform_model.specs.Twins.{has_twin}
+use Rattle.soc_base.specs.Twins.{has_twin}
+use Rattle.soc_base.specs.declared.limits.TheConstants.{MOST_ROWS}
 use Rattle.platform_model.specs.declared.platform.Platform.{Platform}
-use Rattle.bundle_model.specs.Sets.{word_kind, send_kind, recv_kind, step_kind}
+use Rattle.trace_log.specs.Kinds.{kind_text}
+use Rattle.trace_log.specs.declared.row.Kind.TheVariants.{Word, Send, Recv, Step}
 use Rattle.bundle_model.specs.declared.raw.RawPart.{RawPart}
 use Rattle.bundle_model.specs.declared.raw.RawBundle.{RawBundle}
 use Rattle.bundle_model.specs.declared.rules.BRule.{BRule}
-use Rattle.bundle_model.specs.declared.rules.BRule.TheVariants.{B4, B5, B6, B7, B8, B9, B10, B11, B12, B13, B14}
+use Rattle.bundle_model.specs.declared.rules.BRule.TheVariants.{B1, B2, B3, B4, B5, B6, B7, B8, B9, B10, B11, B12, B13, B14}
 
+-- the list has no item
 abbrev pub is_empty : {Item : Type 0} → List Item → Bool
 is_empty items = length items == 0
 
@@ -50,6 +53,7 @@ abbrev pub image_fits : ℤ → Option (List ℕ) → Bool
 image_fits len None = false
 image_fits len (Some words) = int_le (pos (4 * length words)) len
 
+-- the part has an image, and it fits its region
 abbrev pub has_image : RawPart → Bool
 has_image part = image_fits part.len part.image
 
@@ -57,12 +61,16 @@ has_image part = image_fits part.len part.image
 abbrev pub has_entry : RawPart → Bool
 has_entry part = is_within part.entry (pos 0) (part.len -ℤ pos 4) && is_multiple part.entry (pos 4)
 
+-- the name is the word of a kind of rows
 abbrev pub is_kind : List ℕ → Bool
-is_kind name = bytes_eq name word_kind || bytes_eq name send_kind || bytes_eq name recv_kind || bytes_eq name step_kind
+is_kind name =
+    bytes_eq name (kind_text Word) || bytes_eq name (kind_text Send)
+    || bytes_eq name (kind_text Recv) || bytes_eq name (kind_text Step)
 
--- the part keeps at most 4096 rows, of different kinds
+-- the part keeps no more rows than the most, of different kinds
 abbrev pub has_trace : RawPart → Bool
-has_trace part = is_within part.trace (pos 0) (pos 4096) && list_all is_kind part.kinds && not (has_twin bytes_eq part.kinds)
+has_trace part =
+    is_within part.trace (pos 0) (pos MOST_ROWS) && list_all is_kind part.kinds && not (has_twin bytes_eq part.kinds)
 
 -- the part holds a port
 abbrev pub has_ports : RawPart → Bool
@@ -83,7 +91,12 @@ breaks B8 platform raw = not (list_all has_image raw.parts)
 breaks B9 platform raw = not (list_all has_entry raw.parts)
 breaks B10 platform raw = not (list_all has_trace raw.parts)
 breaks B11 platform raw = communicates raw
-breaks _ platform raw = false
+breaks B12 platform raw = false
+breaks B13 platform raw = false
+breaks B14 platform raw = false
+breaks B1 platform raw = false
+breaks B2 platform raw = false
+breaks B3 platform raw = false
 
 -- the rules of the raw values, in their order
 abbrev pub value_rules : List BRule

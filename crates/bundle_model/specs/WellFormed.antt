@@ -3,6 +3,7 @@ use Rattle.std.specs.Prelude.{◌≡◌, ◌≢◌, ◌+◌, ◌*◌, ◌%◌, �
 use Rattle.std.specs.List.{IsDistinct}
 use Rattle.platform_model.specs.declared.platform.Platform.{Platform}
 use Rattle.soc_base.specs.Slots.{slots_of}
+use Rattle.soc_base.specs.declared.limits.TheConstants.{MOST_ROWS}
 use Rattle.bundle_model.specs.declared.bundle.Part.{Part}
 use Rattle.bundle_model.specs.declared.bundle.Bundle.{Bundle}
 
@@ -18,7 +19,7 @@ pub record IsWellFormedPart (platform : Platform) (part : Part) : Type 0 where
   pub image_fits : 4 * length part.image ≤ part.region.len
   pub entry_aligned : part.entry % 4 ≡ 0
   pub entry_inside : part.entry + 4 ≤ part.region.len
-  pub trace_fits : part.trace ≤ 4096
+  pub trace_fits : part.trace ≤ MOST_ROWS
   pub kinds_exist : part.kinds < 16
   pub no_ports : part.ports ≡ []
 

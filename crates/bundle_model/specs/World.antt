@@ -1,6 +1,7 @@
 -- What a run knows beforehand: a catalog of judged bundles, and the loads that name them.
 use Rattle.std.specs.Prelude.{◌≢◌, ℕ, ◌<◌, ◌≤◌, Bool, ◌&&◌, ◌==◌, List, length, find, Option, All, AllPairs, Contains, IfOk}
 use Rattle.std.specs.Option.{option_and_then}
+use Rattle.soc_base.specs.declared.limits.TheConstants.{MOST_COMMANDS}
 use Rattle.soc_base.specs.declared.label.Label.{Label}
 use Rattle.bundle_model.specs.declared.bundle.Part.{Part}
 use Rattle.bundle_model.specs.declared.world.World.{World}
@@ -17,11 +18,11 @@ same_label one other = one.session == other.session && one.load == other.load
 abbrev pub IsSoundCatalog : World → Type 0
 IsSoundCatalog world = All (λ named. IfOk named.judged (IsWellFormed world.platform)) world.catalog
 
--- a world and the loads of a run: the catalog is sound, there are at most 256 loads, no two have one
--- label, and each names a bundle of the catalog
+-- a world and the loads of a run: the catalog is sound, there are no more loads than commands, no two
+-- have one label, and each names a bundle of the catalog
 pub record IsSoundWorld (world : World) (loads : List LoadName) : Type 0 where
   pub catalog : IsSoundCatalog world
-  pub few : length loads ≤ 256
+  pub few : length loads ≤ MOST_COMMANDS
   pub labelled : AllPairs (λ one other. one.label ≢ other.label) loads
   pub known : All (λ load. load.bundle < length world.catalog) loads
 

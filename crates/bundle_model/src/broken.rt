@@ -2,14 +2,13 @@
 
 ghost use Rattle.std.specs.Prelude.{◌≡◌, ◌*◌, ◌+ℤ◌, pos, int_le};
 ghost use Rattle.std.specs.List.{list_any, list_all};
-ghost use Rattle.std.specs.Str.{bytes_eq};
-ghost use Rattle.platform_model.specs.Twins.{has_twin};
-ghost use Rattle.bundle_model.specs.Rules.{has_tile, shares_tile, is_slot, ascends, has_slots, has_region, has_image, has_entry, is_kind, has_trace, has_ports, breaks, first_rule};
+ghost use Rattle.bundle_model.specs.Rules.{has_tile, is_slot, ascends, has_slots, has_region, has_image, has_entry, is_kind, has_trace, has_ports, breaks, first_rule};
 
 use crate::raw::{RawBundle, RawPart};
 use crate::rules::BRule;
 use platform_model::{Platform, divides, is_between};
-use soc_base::Text;
+use soc_base::{Likeness, MOST_ROWS, Text, has_twin};
+use trace_log::Kind;
 
 /// The rules of the raw values, in their order.
 const VALUE_RULES: [BRule; 11] = [
@@ -43,14 +42,15 @@ fn is_broken(rule: BRule, raw: &RawBundle, platform: &Platform) -> bool
     let parts = raw.parts.as_slice();
     match rule {
         BRule::B4 => raw.version != 1,
-        BRule::B5 => parts.len() == 0 || !have_tiles(parts, platform) || share_tile(parts),
+        BRule::B5 => parts.len() == 0 || !have_tiles(parts, platform) || has_twin::<RawPart, OneTile>(parts),
         BRule::B6 => !have_slots(parts, platform),
         BRule::B7 => !have_regions(parts, platform),
         BRule::B8 => !have_images(parts),
         BRule::B9 => !have_entries(parts),
         BRule::B10 => !have_traces(parts),
         BRule::B11 => have_ports(parts) || raw.pairs.len() != 0,
-        _ => false,
+        BRule::B12 | BRule::B13 | BRule::B14 => false,
+        BRule::B1 | BRule::B2 | BRule::B3 => false,
     }
 }
 
@@ -62,21 +62,17 @@ fn have_tiles(parts: &[RawPart], platform: &Platform) -> bool
     parts.iter().all(|part| 0 <= part.tile && part.tile < tiles)
 }
 
-// Whether two parts stand on one tile.
-fn share_tile(parts: &[RawPart]) -> bool
-    ensures { result ≡ has_twin shares_tile parts.now }
-{
-    match parts {
-        [] => false,
-        [one, rest @ ..] => shares_with(one, rest) || share_tile(rest),
-    }
-}
+// Parts that stand on one tile.
+struct OneTile;
 
-// Whether a part stands on the tile of one of the others.
-fn shares_with(one: &RawPart, others: &[RawPart]) -> bool
-    ensures { result ≡ list_any (shares_tile one.now) others.now }
-{
-    others.iter().any(|other| one.tile == other.tile)
+impl Likeness<RawPart> for OneTile {
+    ghost use Rattle.bundle_model.specs.Rules.{shares_tile};
+
+    ghost alike = { shares_tile };
+
+    fn are_alike(one: &RawPart, other: &RawPart) -> bool {
+        one.tile == other.tile
+    }
 }
 
 // Whether each part's slots are partition slots of the platform.
@@ -191,12 +187,14 @@ fn have_traces(parts: &[RawPart]) -> bool
     parts.iter().all(|part| is_trace(part))
 }
 
-// Whether the part keeps at most 4096 rows, of different kinds.
+// Whether the part keeps no more rows than the most, of different kinds.
 fn is_trace(part: &RawPart) -> bool
     ensures { result ≡ has_trace part.now }
 {
     let kinds = part.kinds.as_slice();
-    is_between(part.trace, 0, 4096) && are_known(kinds) && !twice(kinds)
+    is_between(part.trace, 0, i64::from(MOST_ROWS))
+        && are_known(kinds)
+        && !has_twin::<Text, OneName>(kinds)
 }
 
 // Whether each name is that of a kind of rows.
@@ -211,24 +209,23 @@ fn is_known(name: &Text) -> bool
     ensures { result ≡ is_kind name.now }
 {
     let name = name.as_str();
-    name == "word" || name == "send" || name == "recv" || name == "step"
+    name == Kind::Word.word()
+        || name == Kind::Send.word()
+        || name == Kind::Recv.word()
+        || name == Kind::Step.word()
 }
 
-// Whether a name stands twice.
-fn twice(names: &[Text]) -> bool
-    ensures { result ≡ has_twin bytes_eq names.now }
-{
-    match names {
-        [] => false,
-        [one, rest @ ..] => is_among(one, rest) || twice(rest),
+// Names that are one.
+struct OneName;
+
+impl Likeness<Text> for OneName {
+    ghost use Rattle.std.specs.Str.{bytes_eq};
+
+    ghost alike = { bytes_eq };
+
+    fn are_alike(one: &Text, other: &Text) -> bool {
+        one.as_str() == other.as_str()
     }
-}
-
-// Whether a name is one of the others.
-fn is_among(one: &Text, others: &[Text]) -> bool
-    ensures { result ≡ list_any (bytes_eq one.now) others.now }
-{
-    others.iter().any(|other| one.as_str() == other.as_str())
 }
 
 // Whether some part holds a port.

@@ -24,10 +24,8 @@ pub fn check(alloc: Global, raw: &RawBundle, platform: &Platform) -> Result<Bund
     if let Some(rule) = first_broken(raw, platform) {
         return Err(BundleFault::Rule(rule));
     }
-    match unbroken(alloc, raw, platform) {
-        Ok(bundle) => Ok(bundle),
-        Err(NoMemory) => Err(BundleFault::NoMemory),
-    }
+    let bundle = unbroken(alloc, raw, platform)?;
+    Ok(bundle)
 }
 
 // The bundle that raw values mean which break no rule.

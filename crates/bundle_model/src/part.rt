@@ -1,9 +1,10 @@
 //! Making the parts of a bundle of the raw values that mean them.
 
-ghost use Rattle.std.specs.Prelude.{◌≡◌, ◌^◌, ◌≤◌, [], if◌then◌else◌, pos, nat_abs, map, unwrap_or, IsTrue, IsFalse, IfOk};
+ghost use Rattle.std.specs.Prelude.{◌≡◌, ◌^◌, ◌≤◌, [], pos, nat_abs, map, unwrap_or, IsTrue, IsFalse, IfOk};
 ghost use Rattle.std.specs.List.{list_any, list_all};
 ghost use Rattle.platform_model.specs.Limits.{is_within};
-ghost use Rattle.bundle_model.specs.Sets.{slot_set, kind_set, names};
+ghost use Rattle.bundle_model.specs.Sets.{slot_set, kind_bit, kind_set, names};
+ghost use Rattle.trace_log.specs.Kinds.{phase_of};
 ghost use Rattle.bundle_model.specs.Rules.{has_tile, is_slot, has_slots, has_region, has_entry, has_trace, has_ports};
 ghost use Rattle.bundle_model.specs.Bundle.{part_of};
 
@@ -12,6 +13,7 @@ use crate::raw::RawPart;
 use platform_model::Platform;
 use soc_base::{Items, NoMemory, Region, Text};
 use std::alloc::Global;
+use trace_log::Kind;
 
 /// Makes the parts that raw values mean which keep the rules and hold no port.
 pub fn parts_of(alloc: Global, raw: &[RawPart], platform: &Platform) -> Result<Vec<Part>, NoMemory>
@@ -125,10 +127,22 @@ fn bit(slot: i64) -> u16
 fn kinds(raw: &[Text]) -> u8
     ensures { result ≡ kind_set raw.now }
 {
-    flag(is_named(raw, "word"), 1)
-        + flag(is_named(raw, "send"), 2)
-        + flag(is_named(raw, "recv"), 4)
-        + flag(is_named(raw, "step"), 8)
+    kind_bit(raw, Kind::Word)
+        + kind_bit(raw, Kind::Send)
+        + kind_bit(raw, Kind::Recv)
+        + kind_bit(raw, Kind::Step)
+}
+
+// The set that has a kind of rows alone, where its word is among these names.
+fn kind_bit(raw: &[Text], kind: Kind) -> u8
+    ensures value { result ≡ kind_bit raw.now kind }
+    ensures most { result ≤ 2 ^ phase_of kind }
+{
+    if is_named(raw, kind.word()) {
+        1 << kind.phase()
+    } else {
+        0
+    }
 }
 
 // Whether a name stands in the list.
@@ -136,12 +150,4 @@ fn is_named(raw: &[Text], name: &str) -> bool
     ensures { result ≡ names raw.now name.now }
 {
     raw.iter().any(|other| other.as_str() == name)
-}
-
-// The bit, where it is set.
-fn flag(here: bool, bit: u8) -> u8
-    ensures value { result ≡ (if here then bit else 0) }
-    ensures most { result ≤ bit }
-{
-    if here { bit } else { 0 }
 }

@@ -2,37 +2,17 @@
 //! holds.
 
 use crate::{BRule, BundleFault, RawBundle, RawPart, Resource, Schedule, check, meets, resources};
-use platform_model::{Platform, RawCosts, RawPlatform};
+use platform_model::{Platform, RawPlatform};
 use soc_base::{Items, Text};
 use std::alloc::Global;
 use std::test::Fail;
 
 // A platform of one tile with 256 bytes and 4 partition slots.
 fn platform(alloc: Global) -> Result<Platform, Fail> {
-    let costs = RawCosts {
-        integer: 1,
-        mul: 3,
-        div: 34,
-        load: 2,
-        store: 2,
-        taken: 3,
-        untaken: 1,
-        jump: 3,
-        device: 4,
-        system: 1,
-    };
     let raw = RawPlatform {
-        tiles: 1,
         mem_bytes: 256,
-        slot_cycles: 8,
-        table_slots: 8,
-        kernel_cycles: 72,
-        partition_cycles: 56,
         partition_slots: 4,
-        ports: 2,
-        queue: 8,
-        links: Items::new(alloc),
-        costs,
+        ..RawPlatform::plain(alloc)
     };
     Ok(Platform::check(alloc, &raw)?)
 }

@@ -1,8 +1,11 @@
 //! What a run knows beforehand, and what is granted in it.
 
-ghost use Rattle.std.specs.Prelude.{◌≡◌, [], IfOk, vec_capacity};
+ghost use Rattle.std.specs.Prelude.{◌≡◌, ◌==◌, [], find, IfOk, vec_capacity};
+ghost use Rattle.std.specs.Option.{option_copied};
+ghost use Rattle.bundle_model.specs.Grants.{bundle_at};
+ghost use Rattle.bundle_model.specs.World.{part_on};
 
-use crate::bundle::Bundle;
+use crate::bundle::{Bundle, Part};
 use crate::rules::BRule;
 use platform_model::Platform;
 use soc_base::{Items, Label, NoMemory, Text};
@@ -24,6 +27,42 @@ pub struct World {
     pub platform: Platform,
     /// The bundle files.
     pub catalog: Items<Named>,
+}
+
+impl World {
+    /// Answers the bundle at a place of the catalog, if there is one and it breaks no rule.
+    pub fn bundle(&self, place: u16) -> Option<&Bundle>
+        ensures { option_copied result ≡ bundle_at self.entry.now place }
+    {
+        match self.catalog.get(usize::from(place)) {
+            Some(named) => match &named.judged {
+                Ok(bundle) => Some(bundle),
+                Err(_) => None,
+            },
+            None => None,
+        }
+    }
+
+    /// Answers the part on a tile of the bundle at a place of the catalog, if there is one.
+    pub fn part_on(&self, tile: u8, place: u16) -> Option<&Part>
+        ensures { option_copied result ≡ part_on self.entry.now tile place }
+    {
+        match self.bundle(place) {
+            Some(bundle) => part_of(bundle, tile),
+            None => None,
+        }
+    }
+}
+
+// The part of a bundle on a tile, if there is one.
+fn part_of(bundle: &Bundle, tile: u8) -> Option<&Part>
+    ensures { option_copied result ≡ find (λ part. part.tile == tile) bundle.entry.now.parts }
+{
+    bundle
+        .parts
+        .as_slice()
+        .iter()
+        .find(|part| part.tile == tile)
 }
 
 /// A load command's name, and the bundle that it asks for.

@@ -10,4 +10,4 @@ mod table;
 #[cfg(test)]
 mod tests;
 
-pub use table::cost;
+pub use table::{cost, instr_cost};

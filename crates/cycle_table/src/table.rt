@@ -32,8 +32,9 @@ fn reg_op(costs: &Costs, op: RegOp) -> u8
     }
 }
 
-// The cost of an instruction.
-fn instr_cost(costs: &Costs, regs: &Regs, instr: Instr) -> u8
+/// Answers the cost of an instruction, in running cycles from 1 to 64: by the registers as they are before
+/// it.
+pub fn instr_cost(costs: &Costs, regs: &Regs, instr: Instr) -> u8
     requires { IsInRange instr }
     ensures value { result ≡ cost_of_instr costs.now regs.now instr }
     ensures range { (0 < result) × (result ≤ 64) }

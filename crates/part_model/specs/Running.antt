@@ -1,7 +1,8 @@
 -- One running cycle of a part, on any bus: the word at pc is fetched, its cost is counted down, and in
 -- the last cycle of its cost the instruction has its effect.
-use Rattle.std.specs.Prelude.{ℕ, ◌-◌, ◌==◌, nat_lt, if◌then◌else◌, Option, Some, None}
+use Rattle.std.specs.Prelude.{ℕ, ◌-◌, ◌==◌, nat_lt, if◌then◌else◌, Option, Some, None, Result, Ok, Err}
 use Rattle.soc_base.specs.declared.region.Width.{Width}
+use Rattle.soc_base.specs.declared.cause.Cause.{Cause}
 use Rattle.soc_base.specs.declared.cause.Cause.TheVariants.{Illegal, Fetch}
 use Rattle.platform_model.specs.declared.costs.Costs.{Costs}
 use Rattle.rv_core.specs.declared.instr.Instr.{Instr}
@@ -11,7 +12,7 @@ use Rattle.rv_core.specs.declared.execution.Outcome.TheVariants.{Next, Stall, Ha
 use Rattle.rv_core.specs.Registers.{Registers}
 use Rattle.rv_core.specs.Decoding.{decode_of}
 use Rattle.rv_core.specs.Effect.{request_of, effect_of, ask}
-use Rattle.cycle_table.specs.Cost.{cost_of}
+use Rattle.cycle_table.specs.Cost.{cost_of, cost_of_instr}
 
 -- how a bus answers: the word at an address, and what a load or a store gives and leaves
 pub record BusMeaning (S : Type 0) : Type 0 where
@@ -47,14 +48,28 @@ executed meaning regs bus instr =
     let effect = effect_of regs instr asked.0 in
     ended effect.outcome effect.regs asked.1
 
-abbrev pub executed_or_illegal : {S : Type 0} → BusMeaning S → Registers → S → Option Instr → CycleEnd S
-executed_or_illegal meaning regs bus None = ended (Fault Illegal) regs bus
-executed_or_illegal meaning regs bus (Some instr) = executed meaning regs bus instr
+-- what stands at pc: an instruction, or the cause for which there is none
+abbrev pub decoded_or_illegal : Option Instr → Result Instr Cause
+decoded_or_illegal None = Err Illegal
+decoded_or_illegal (Some instr) = Ok instr
+
+abbrev pub instr_of : Option ℕ → Result Instr Cause
+instr_of None = Err Fetch
+instr_of (Some word) = decoded_or_illegal (decode_of word)
+
+-- what it costs: 1 where there is no instruction
+abbrev pub cost_with : Costs → Registers → Result Instr Cause → ℕ
+cost_with costs regs (Err cause) = 1
+cost_with costs regs (Ok instr) = cost_of_instr costs regs instr
+
+-- the effect of what stands at pc
+abbrev pub effect_with : {S : Type 0} → BusMeaning S → Registers → S → Result Instr Cause → CycleEnd S
+effect_with meaning regs bus (Err cause) = ended (Fault cause) regs bus
+effect_with meaning regs bus (Ok instr) = executed meaning regs bus instr
 
 -- the effect of the word at pc
 abbrev pub effect_at : {S : Type 0} → BusMeaning S → Registers → S → Option ℕ → CycleEnd S
-effect_at meaning regs bus None = ended (Fault Fetch) regs bus
-effect_at meaning regs bus (Some word) = executed_or_illegal meaning regs bus (decode_of word)
+effect_at meaning regs bus word = effect_with meaning regs bus (instr_of word)
 
 -- how many cycles the instruction at pc needs, this one counted: those that are left of it, or its
 -- cost where it begins in this cycle

@@ -12,4 +12,4 @@ mod record;
 mod running;
 
 pub use record::{Place, record_outcome, trace};
-pub use running::run_cycle;
+pub use running::{cost_at, effect, instr_at, left_after};

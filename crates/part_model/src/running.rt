@@ -1,74 +1,63 @@
 //! The cycle of a running core.
 
-ghost use Rattle.std.specs.Prelude.{◌≡◌, ◌<◌, ◌≤◌, Option};
-ghost use Rattle.part_model.specs.Running.{meaning_of, running_cycle, effect_at, due_of, left_after};
+ghost use Rattle.std.specs.Prelude.{◌≡◌, ◌<◌, ◌≤◌, Option, IfOk};
+ghost use Rattle.std.specs.Result.{ForOk};
+ghost use Rattle.rv_core.specs.Table.{IsInRange};
+ghost use Rattle.part_model.specs.Running.{meaning_of, effect_with, cost_with, instr_of, left_after};
 
-use cycle_table::cost;
+use cycle_table::instr_cost;
 use platform_model::Costs;
-use rv_core::{Bus, Cause, Outcome, Regs, decode, execute};
+use rv_core::{Bus, Cause, Instr, Outcome, Regs, decode, execute};
 
-// How many cycles the instruction at pc needs, this one counted.
-fn due(costs: &Costs, regs: &Regs, left: u8, word: Option<u32>) -> u8
-    ensures { result ≡ due_of costs.now regs.now left word }
+/// Answers what stands at pc, where `word` is the word there: an instruction, or the cause for which there
+/// is none, `Fetch` where there is no word.
+pub fn instr_at(word: Option<u32>) -> Result<Instr, Cause>
+    ensures exact { result ≡ instr_of word }
+    ensures range { IfOk result IsInRange }
 {
-    if left == 0 {
-        cost(costs, regs, word)
-    } else {
-        left
+    let Some(word) = word else {
+        return Err(Cause::Fetch);
+    };
+    let Some(instr) = decode(word) else {
+        return Err(Cause::Illegal);
+    };
+    Ok(instr)
+}
+
+/// Answers the cost of what stands at pc, in running cycles from 1 to 64, by the registers as they are before
+/// the instruction.
+pub fn cost_at(costs: &Costs, regs: &Regs, here: Result<Instr, Cause>) -> u8
+    requires { ForOk here IsInRange }
+    ensures value { result ≡ cost_with costs.now regs.now here }
+    ensures range { (0 < result) × (result ≤ 64) }
+{
+    match here {
+        Ok(instr) => instr_cost(costs, regs, instr),
+        Err(_) => 1,
     }
 }
 
-// How many cycles an instruction needs still that came to an outcome.
-fn left(outcome: Outcome) -> u8
+/// Answers how many cycles an instruction needs still that came to an outcome: one that stalled is tried again
+/// in the next running cycle.
+pub fn left_after(outcome: Outcome) -> u8
     ensures { result ≡ left_after outcome }
 {
     match outcome {
         Outcome::Stall => 1,
-        _ => 0,
+        Outcome::Next | Outcome::Halt(_) | Outcome::Fault(_) => 0,
     }
 }
 
-// The effect of the word at pc.
-fn effect<B: Bus>(regs: &mut Regs, bus: &mut B, word: Option<u32>) -> Outcome
-    ensures outcome { Some result ≡ (effect_at (meaning_of B.fetch_at B.load_at B.store_at) regs.old (B.state bus.old) word).outcome }
-    ensures regs { regs.new ≡ (effect_at (meaning_of B.fetch_at B.load_at B.store_at) regs.old (B.state bus.old) word).regs }
-    ensures bus { B.state bus.new ≡ (effect_at (meaning_of B.fetch_at B.load_at B.store_at) regs.old (B.state bus.old) word).bus }
+/// Does what stands at pc, on a bus, and answers what it came to. Registers change on `Next` alone.
+pub fn effect<B: Bus>(regs: &mut Regs, bus: &mut B, here: Result<Instr, Cause>) -> Outcome
+    requires { ForOk here IsInRange }
+    ensures outcome { Some result ≡ (effect_with (meaning_of B.fetch_at B.load_at B.store_at) regs.old (B.state bus.old) here).outcome }
+    ensures regs { regs.new ≡ (effect_with (meaning_of B.fetch_at B.load_at B.store_at) regs.old (B.state bus.old) here).regs }
+    ensures bus { B.state bus.new ≡ (effect_with (meaning_of B.fetch_at B.load_at B.store_at) regs.old (B.state bus.old) here).bus }
     ensures kept { B.kept bus.new ≡ B.kept bus.old }
 {
-    let Some(word) = word else {
-        return Outcome::Fault(Cause::Fetch);
-    };
-    let Some(instr) = decode(word) else {
-        return Outcome::Fault(Cause::Illegal);
-    };
-    execute(regs, bus, instr)
-}
-
-/// Does one running cycle of a core on a bus: fetches the word at pc, counts its cost down, and in the
-/// last cycle of the cost does the instruction. `left` is the number of cycles that the instruction
-/// under way needs still, 0 where there is none: the cost is then told from the registers as they are.
-/// Answers what the instruction came to, or None where it needs more cycles; registers change on `Next`
-/// alone.
-#[tactic(auto, unfolding(crate::specs::Running::running_cycle))]
-pub fn run_cycle<B: Bus>(
-    costs: &Costs,
-    regs: &mut Regs,
-    left: &mut u8,
-    bus: &mut B,
-) -> Option<Outcome>
-    ensures outcome { result ≡ (running_cycle (meaning_of B.fetch_at B.load_at B.store_at) costs.now regs.old left.old (B.state bus.old)).outcome }
-    ensures regs { regs.new ≡ (running_cycle (meaning_of B.fetch_at B.load_at B.store_at) costs.now regs.old left.old (B.state bus.old)).regs }
-    ensures left { left.new ≡ (running_cycle (meaning_of B.fetch_at B.load_at B.store_at) costs.now regs.old left.old (B.state bus.old)).left }
-    ensures bus { B.state bus.new ≡ (running_cycle (meaning_of B.fetch_at B.load_at B.store_at) costs.now regs.old left.old (B.state bus.old)).bus }
-    ensures kept { B.kept bus.new ≡ B.kept bus.old }
-{
-    let word = bus.fetch(regs.pc);
-    let due = due(costs, regs, *left, word);
-    if due > 1 {
-        *left = due - 1;
-        return None;
+    match here {
+        Ok(instr) => execute(regs, bus, instr),
+        Err(cause) => Outcome::Fault(cause),
     }
-    let outcome = effect(regs, bus, word);
-    *left = self::left(outcome);
-    Some(outcome)
 }

@@ -1,5 +1,5 @@
 -- What a platform file means: the rules P1 to P12 over its document, and the numbers that it gives.
-use Rattle.std.specs.Prelude.{◌≡◌, codes, ℕ, pos, Bool, not, ◌&&◌, List, map, Option, Some, None, if◌then◌else◌}
+use Rattle.std.specs.Prelude.{◌≡◌, codes, ℕ, Bool, not, ◌&&◌, List, map, Option, Some, None, if◌then◌else◌}
 use Rattle.std.specs.List.{list_all}
 use Rattle.toml.specs.Data.{Members}
 use Rattle.toml_keys.specs.Document.{Reads}
@@ -11,6 +11,7 @@ use Rattle.platform_model.specs.declared.platform.Platform.{Platform}
 use Rattle.platform_model.specs.declared.raw.RawLink.{RawLink}
 use Rattle.platform_model.specs.declared.raw.RawCosts.{RawCosts}
 use Rattle.platform_model.specs.declared.raw.RawPlatform.{RawPlatform}
+use Rattle.platform_model.specs.declared.raw.TheConstants.{DEFAULT_COSTS}
 use Rattle.platform_model.specs.declared.rules.PRule.{PRule}
 use Rattle.platform_model.specs.declared.rules.PRule.TheVariants.{P1, P2, P3}
 use Rattle.platform_file.specs.Format.{top_keys, link_keys, cost_keys}
@@ -41,16 +42,16 @@ link_of ms = record {
 -- the costs, each with its default
 unfoldable pub costs_of : Members → RawCosts
 costs_of ms = record {
-  integer = integer_or (codes "integer") (pos 1) ms;
-  mul = integer_or (codes "mul") (pos 3) ms;
-  div = integer_or (codes "div") (pos 34) ms;
-  load = integer_or (codes "load") (pos 2) ms;
-  store = integer_or (codes "store") (pos 2) ms;
-  taken = integer_or (codes "taken") (pos 3) ms;
-  untaken = integer_or (codes "untaken") (pos 1) ms;
-  jump = integer_or (codes "jump") (pos 3) ms;
-  device = integer_or (codes "device") (pos 4) ms;
-  system = integer_or (codes "system") (pos 1) ms;
+  integer = integer_or (codes "integer") DEFAULT_COSTS.integer ms;
+  mul = integer_or (codes "mul") DEFAULT_COSTS.mul ms;
+  div = integer_or (codes "div") DEFAULT_COSTS.div ms;
+  load = integer_or (codes "load") DEFAULT_COSTS.load ms;
+  store = integer_or (codes "store") DEFAULT_COSTS.store ms;
+  taken = integer_or (codes "taken") DEFAULT_COSTS.taken ms;
+  untaken = integer_or (codes "untaken") DEFAULT_COSTS.untaken ms;
+  jump = integer_or (codes "jump") DEFAULT_COSTS.jump ms;
+  device = integer_or (codes "device") DEFAULT_COSTS.device ms;
+  system = integer_or (codes "system") DEFAULT_COSTS.system ms;
 }
 
 -- the numbers of a platform file whose keys have their types

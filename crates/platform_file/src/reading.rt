@@ -8,7 +8,7 @@ ghost use Rattle.platform_model.specs.Platform.{raw_of};
 ghost use Rattle.platform_file.specs.Reading.{knows_keys, knows_types, link_of, costs_of, platform_of, least_rule, Breaks, Gives};
 
 use crate::format::{cost_keys, link_keys, top_keys};
-use platform_model::{PRule, Platform, PlatformFault, RawCosts, RawLink, RawPlatform};
+use platform_model::{DEFAULT_COSTS, PRule, Platform, PlatformFault, RawCosts, RawLink, RawPlatform};
 use soc_base::{Items, NoMemory};
 use std::alloc::Global;
 use toml::Table;
@@ -55,16 +55,16 @@ fn costs_of(costs: &Level) -> RawCosts
     ensures { result ≡ costs_of (level_members costs.now) }
 {
     RawCosts {
-        integer: costs.integer_or("integer", 1),
-        mul: costs.integer_or("mul", 3),
-        div: costs.integer_or("div", 34),
-        load: costs.integer_or("load", 2),
-        store: costs.integer_or("store", 2),
-        taken: costs.integer_or("taken", 3),
-        untaken: costs.integer_or("untaken", 1),
-        jump: costs.integer_or("jump", 3),
-        device: costs.integer_or("device", 4),
-        system: costs.integer_or("system", 1),
+        integer: costs.integer_or("integer", DEFAULT_COSTS.integer),
+        mul: costs.integer_or("mul", DEFAULT_COSTS.mul),
+        div: costs.integer_or("div", DEFAULT_COSTS.div),
+        load: costs.integer_or("load", DEFAULT_COSTS.load),
+        store: costs.integer_or("store", DEFAULT_COSTS.store),
+        taken: costs.integer_or("taken", DEFAULT_COSTS.taken),
+        untaken: costs.integer_or("untaken", DEFAULT_COSTS.untaken),
+        jump: costs.integer_or("jump", DEFAULT_COSTS.jump),
+        device: costs.integer_or("device", DEFAULT_COSTS.device),
+        system: costs.integer_or("system", DEFAULT_COSTS.system),
     }
 }
 
@@ -124,10 +124,8 @@ fn judge(alloc: Global, table: &Table) -> Result<Platform, PlatformFault>
     if !knows_types(&file) {
         return Err(PlatformFault::Rule(PRule::P3));
     }
-    match platform_of(alloc, &file) {
-        Ok(raw) => Platform::check(alloc, &raw),
-        Err(NoMemory) => Err(PlatformFault::NoMemory),
-    }
+    let raw = platform_of(alloc, &file)?;
+    Platform::check(alloc, &raw)
 }
 
 /// Reads a platform file. Refuses the least rule of P1 to P12 that its bytes break: P1 where they

@@ -5,7 +5,8 @@ use Rattle.std.specs.List.{list_all, find}
 use Rattle.std.proofs.lemmas.Bool.{and_parts, not-false, leb-true}
 use Rattle.std.proofs.lemmas.Int.{ints}
 use Rattle.platform_model.specs.Limits.{is_within, is_multiple}
-use Rattle.platform_model.specs.Twins.{has_twin}
+use Rattle.soc_base.specs.Twins.{has_twin}
+use Rattle.soc_base.specs.declared.limits.TheConstants.{MOST_TILES, MOST_LINKS, LEAST_MEMORY, MOST_MEMORY, MOST_SLOT_CYCLES, MOST_TABLE_SLOTS, LEAST_KERNEL_CYCLES, MOST_KERNEL_CYCLES, MOST_PARTITION_CYCLES, MOST_PARTITION_SLOTS, MOST_PORTS, MOST_QUEUE}
 use Rattle.platform_model.specs.Links.{raw_link, joins_tiles, has_router_ports, leaves_alike, enters_alike}
 use Rattle.platform_model.specs.Rules.{tiles_built, are_costs, breaks, first_rule}
 use Rattle.platform_model.specs.declared.link.Link.{Link}
@@ -43,17 +44,17 @@ unbroken raw none =
 
 -- each number is in its range
 pub record Kept (raw : RawPlatform) : Type 0 where
-  pub tiles : is_within raw.tiles (pos 1) (pos 32) ≡ true
-  pub mem_bytes : is_within raw.mem_bytes (pos 16) (pos 1048576) ≡ true
+  pub tiles : is_within raw.tiles (pos 1) (pos MOST_TILES) ≡ true
+  pub mem_bytes : is_within raw.mem_bytes (pos LEAST_MEMORY) (pos MOST_MEMORY) ≡ true
   pub aligned : is_multiple raw.mem_bytes (pos 16) ≡ true
-  pub slot_cycles : is_within raw.slot_cycles (pos 1) (pos 64) ≡ true
-  pub table_slots : is_within raw.table_slots (pos 1) (pos 64) ≡ true
-  pub kernel_cycles : is_within raw.kernel_cycles (pos 66) (pos 4096) ≡ true
-  pub partition_cycles : is_within raw.partition_cycles (pos 1) (pos 65536) ≡ true
-  pub partition_slots : is_within raw.partition_slots (pos 1) (pos 16) ≡ true
-  pub ports : is_within raw.ports (pos 0) (pos 16) ≡ true
-  pub queue : is_within raw.queue (pos 1) (pos 63) ≡ true
-  pub few_links : nat_le (length raw.links) 128 ≡ true
+  pub slot_cycles : is_within raw.slot_cycles (pos 1) (pos MOST_SLOT_CYCLES) ≡ true
+  pub table_slots : is_within raw.table_slots (pos 1) (pos MOST_TABLE_SLOTS) ≡ true
+  pub kernel_cycles : is_within raw.kernel_cycles (pos LEAST_KERNEL_CYCLES) (pos MOST_KERNEL_CYCLES) ≡ true
+  pub partition_cycles : is_within raw.partition_cycles (pos 1) (pos MOST_PARTITION_CYCLES) ≡ true
+  pub partition_slots : is_within raw.partition_slots (pos 1) (pos MOST_PARTITION_SLOTS) ≡ true
+  pub ports : is_within raw.ports (pos 0) (pos MOST_PORTS) ≡ true
+  pub queue : is_within raw.queue (pos 1) (pos MOST_QUEUE) ≡ true
+  pub few_links : nat_le (length raw.links) MOST_LINKS ≡ true
   pub links_join : list_all (joins_tiles raw.tiles) raw.links ≡ true
   pub links_have_ports : list_all has_router_ports raw.links ≡ true
   pub links_leave_apart : has_twin leaves_alike raw.links ≡ false
@@ -67,13 +68,13 @@ both one other kept = and_parts one other (not-false (one && other) kept)
 pub kept : (raw : RawPlatform) → first_rule raw ≡ None → Kept raw
 kept raw none =
     let u = unbroken raw none in
-    let four = both (is_within raw.tiles (pos 1) (pos 32)) (tiles_built raw.tiles) u.p4 in
-    let five = both (is_within raw.mem_bytes (pos 16) (pos 1048576)) (is_multiple raw.mem_bytes (pos 16)) u.p5 in
-    let six = both (is_within raw.slot_cycles (pos 1) (pos 64)) (is_within raw.table_slots (pos 1) (pos 64)) u.p6 in
-    let seven = both (is_within raw.kernel_cycles (pos 66) (pos 4096) && is_within raw.partition_cycles (pos 1) (pos 65536)) (is_within raw.partition_slots (pos 1) (pos 16)) u.p7 in
-    let cycles = and_parts (is_within raw.kernel_cycles (pos 66) (pos 4096)) (is_within raw.partition_cycles (pos 1) (pos 65536)) seven.0 in
-    let eight = both (is_within raw.ports (pos 0) (pos 16)) (is_within raw.queue (pos 1) (pos 63)) u.p8 in
-    let nine = both (nat_le (length raw.links) 128) (list_all (joins_tiles raw.tiles) raw.links) u.p9 in
+    let four = both (is_within raw.tiles (pos 1) (pos MOST_TILES)) (tiles_built raw.tiles) u.p4 in
+    let five = both (is_within raw.mem_bytes (pos LEAST_MEMORY) (pos MOST_MEMORY)) (is_multiple raw.mem_bytes (pos 16)) u.p5 in
+    let six = both (is_within raw.slot_cycles (pos 1) (pos MOST_SLOT_CYCLES)) (is_within raw.table_slots (pos 1) (pos MOST_TABLE_SLOTS)) u.p6 in
+    let seven = both (is_within raw.kernel_cycles (pos LEAST_KERNEL_CYCLES) (pos MOST_KERNEL_CYCLES) && is_within raw.partition_cycles (pos 1) (pos MOST_PARTITION_CYCLES)) (is_within raw.partition_slots (pos 1) (pos MOST_PARTITION_SLOTS)) u.p7 in
+    let cycles = and_parts (is_within raw.kernel_cycles (pos LEAST_KERNEL_CYCLES) (pos MOST_KERNEL_CYCLES)) (is_within raw.partition_cycles (pos 1) (pos MOST_PARTITION_CYCLES)) seven.0 in
+    let eight = both (is_within raw.ports (pos 0) (pos MOST_PORTS)) (is_within raw.queue (pos 1) (pos MOST_QUEUE)) u.p8 in
+    let nine = both (nat_le (length raw.links) MOST_LINKS) (list_all (joins_tiles raw.tiles) raw.links) u.p9 in
     let eleven = neither (has_twin leaves_alike raw.links) (has_twin enters_alike raw.links) u.p11 in
     record {
       tiles = four.0;
@@ -94,21 +95,21 @@ kept raw none =
       costs = not-false (are_costs raw.costs) u.p12;
     }
 
--- a link that joins two of the tiles joins two of 32
-joins_most : (tiles : ℤ) (link : RawLink) → is_within tiles (pos 1) (pos 32) ≡ true → joins_tiles tiles link ≡ true → joins_tiles (pos 32) link ≡ true
+-- a link that joins two of the tiles joins two of the most that there may be
+joins_most : (tiles : ℤ) (link : RawLink) → is_within tiles (pos 1) (pos MOST_TILES) ≡ true → joins_tiles tiles link ≡ true → joins_tiles (pos MOST_TILES) link ≡ true
 joins_most tiles link few joins = grind (arith, ints)
 
-pub all_join_most : (tiles : ℤ) (links : List RawLink) → is_within tiles (pos 1) (pos 32) ≡ true → list_all (joins_tiles tiles) links ≡ true → list_all (joins_tiles (pos 32)) links ≡ true
+pub all_join_most : (tiles : ℤ) (links : List RawLink) → is_within tiles (pos 1) (pos MOST_TILES) ≡ true → list_all (joins_tiles tiles) links ≡ true → list_all (joins_tiles (pos MOST_TILES)) links ≡ true
 all_join_most tiles [] few all = refl
 all_join_most tiles (link ∷ links) few all =
     let parts = and_parts (joins_tiles tiles link) (list_all (joins_tiles tiles) links) all in
     rw (joins_most tiles link few parts.0) (all_join_most tiles links few parts.1)
 
--- the links with a platform's raw numbers are at most 128
-pub few_links_kept : (raw : RawPlatform) (links : List Link) → map raw_link links ≡ raw.links → Kept raw → length links ≤ 128
+-- the links with a platform's raw numbers are few
+pub few_links_kept : (raw : RawPlatform) (links : List Link) → map raw_link links ≡ raw.links → Kept raw → length links ≤ MOST_LINKS
 few_links_kept raw links same k =
     let count : length (map raw_link links) ≡ length raw.links = rw same refl in
-    omega (arith, count, length-map links raw_link, leb-true (length raw.links) 128 k.few_links)
+    omega (arith, count, length-map links raw_link, leb-true (length raw.links) MOST_LINKS k.few_links)
 
 -- the links with a platform's raw numbers join its tiles
 pub links_join_kept : (raw : RawPlatform) (links : List Link) (tiles : ℕ) → pos tiles ≡ raw.tiles → map raw_link links ≡ raw.links → Kept raw → list_all (joins_tiles (pos tiles)) (map raw_link links) ≡ true

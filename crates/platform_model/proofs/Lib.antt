@@ -1,3 +1,4 @@
 pub mod Passing
 pub mod Ranges
 pub mod Kept
+pub mod Laws

@@ -1,5 +1,6 @@
 pub mod Limits
-pub mod Twins
 pub mod Links
 pub mod Rules
+pub mod Words
 pub mod Platform
+pub mod Plain

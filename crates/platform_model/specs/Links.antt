@@ -1,7 +1,7 @@
 -- What is asked of the links of a platform, over their raw numbers.
 use Rattle.std.specs.Prelude.{ℤ, pos, Bool, not, ◌&&◌, int_le, int_lt}
 use Rattle.std.specs.Ordering.{int_eq}
-use Rattle.platform_model.specs.Limits.{is_within}
+use Rattle.soc_base.specs.declared.limits.TheConstants.{ROUTER_PORTS}
 use Rattle.platform_model.specs.declared.link.Link.{Link}
 use Rattle.platform_model.specs.declared.raw.RawLink.{RawLink}
 
@@ -16,9 +16,13 @@ joins_tiles tiles link =
     && int_le (pos 0) link.to && int_lt link.to tiles
     && not (int_eq link.from link.to)
 
--- the link's ports are those of a router, which are numbered from 0 to 6
+-- the port is one of a router's, which are numbered from 0 on
+abbrev pub is_router_port : ℤ → Bool
+is_router_port port = int_le (pos 0) port && int_lt port (pos ROUTER_PORTS)
+
+-- the link's ports are those of routers
 abbrev pub has_router_ports : RawLink → Bool
-has_router_ports link = is_within link.out (pos 0) (pos 6) && is_within link.input (pos 0) (pos 6)
+has_router_ports link = is_router_port link.out && is_router_port link.input
 
 -- two links leave one tile by one port
 abbrev pub leaves_alike : RawLink → RawLink → Bool

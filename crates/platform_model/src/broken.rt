@@ -1,14 +1,19 @@
 //! Whether the raw numbers of a platform file break a rule, and the least that they break.
 
-ghost use Rattle.std.specs.Prelude.{◌≡◌};
-ghost use Rattle.std.specs.List.{list_any, list_all};
-ghost use Rattle.platform_model.specs.Twins.{has_twin};
-ghost use Rattle.platform_model.specs.Links.{joins_tiles, has_router_ports, leaves_alike, enters_alike};
-ghost use Rattle.platform_model.specs.Rules.{tiles_built, are_costs, breaks, first_rule};
+ghost use Rattle.std.specs.Prelude.{◌≡◌, ◌||◌};
+ghost use Rattle.std.specs.List.{list_all};
+ghost use Rattle.soc_base.specs.Twins.{has_twin};
+ghost use Rattle.platform_model.specs.Links.{joins_tiles, is_router_port, has_router_ports, leaves_alike, enters_alike};
+ghost use Rattle.platform_model.specs.Rules.{tiles_built, is_memory, is_frame, are_costs, breaks, first_rule};
 
 use crate::range::{divides, is_between};
 use crate::raw::{RawCosts, RawLink, RawPlatform};
 use crate::rules::PRule;
+use soc_base::{
+    LEAST_KERNEL_CYCLES, LEAST_MEMORY, Likeness, MOST_COST, MOST_KERNEL_CYCLES, MOST_LINKS,
+    MOST_MEMORY, MOST_PARTITION_CYCLES, MOST_PARTITION_SLOTS, MOST_PORTS, MOST_QUEUE,
+    MOST_SLOT_CYCLES, MOST_TABLE_SLOTS, MOST_TILES, ROUTER_PORTS, has_twin,
+};
 
 /// The rules of the raw numbers, in their order.
 const NUMBER_RULES: [PRule; 9] = [
@@ -38,21 +43,43 @@ fn is_broken(rule: PRule, raw: &RawPlatform) -> bool
     ensures { result ≡ breaks rule raw.now }
 {
     match rule {
-        PRule::P4 => !(is_between(raw.tiles, 1, 32) && is_built(raw.tiles)),
-        PRule::P5 => !(is_between(raw.mem_bytes, 16, 1_048_576) && divides(16, raw.mem_bytes)),
-        PRule::P6 => !(is_between(raw.slot_cycles, 1, 64) && is_between(raw.table_slots, 1, 64)),
-        PRule::P7 => {
-            !(is_between(raw.kernel_cycles, 66, 4096)
-                && is_between(raw.partition_cycles, 1, 65_536)
-                && is_between(raw.partition_slots, 1, 16))
+        PRule::P4 => !(is_between(raw.tiles, 1, i64::from(MOST_TILES)) && is_built(raw.tiles)),
+        PRule::P5 => !is_memory(raw.mem_bytes),
+        PRule::P6 => {
+            !(is_between(raw.slot_cycles, 1, i64::from(MOST_SLOT_CYCLES))
+                && is_between(raw.table_slots, 1, i64::from(MOST_TABLE_SLOTS)))
         }
-        PRule::P8 => !(is_between(raw.ports, 0, 16) && is_between(raw.queue, 1, 63)),
-        PRule::P9 => !(raw.links.len() <= 128 && join_tiles(raw.tiles, raw.links.as_slice())),
+        PRule::P7 => !is_frame(raw),
+        PRule::P8 => {
+            !(is_between(raw.ports, 0, i64::from(MOST_PORTS))
+                && is_between(raw.queue, 1, i64::from(MOST_QUEUE)))
+        }
+        PRule::P9 => !(raw.links.len() <= MOST_LINKS && join_tiles(raw.tiles, raw.links.as_slice())),
         PRule::P10 => !have_router_ports(raw.links.as_slice()),
-        PRule::P11 => leave_alike(raw.links.as_slice()) || enter_alike(raw.links.as_slice()),
+        PRule::P11 => share_ports(raw.links.as_slice()),
         PRule::P12 => !are_in_range(&raw.costs),
-        _ => false,
+        PRule::P1 | PRule::P2 | PRule::P3 => false,
     }
+}
+
+// Whether so many bytes are a tile's memory.
+fn is_memory(bytes: i64) -> bool
+    ensures { result ≡ is_memory bytes }
+{
+    is_between(bytes, i64::from(LEAST_MEMORY), i64::from(MOST_MEMORY)) && divides(16, bytes)
+}
+
+// Whether the numbers are those of a frame.
+fn is_frame(raw: &RawPlatform) -> bool
+    ensures { result ≡ is_frame raw.now }
+{
+    let kernel = (
+        i64::from(LEAST_KERNEL_CYCLES),
+        i64::from(MOST_KERNEL_CYCLES),
+    );
+    is_between(raw.kernel_cycles, kernel.0, kernel.1)
+        && is_between(raw.partition_cycles, 1, i64::from(MOST_PARTITION_CYCLES))
+        && is_between(raw.partition_slots, 1, i64::from(MOST_PARTITION_SLOTS))
 }
 
 // Whether platforms of so many tiles are emulated.
@@ -76,52 +103,56 @@ fn joins(tiles: i64, link: &RawLink) -> bool
     0 <= link.from && link.from < tiles && 0 <= link.to && link.to < tiles && link.from != link.to
 }
 
-// Whether each link's ports are those of a router.
+// Whether each link's ports are those of routers.
 fn have_router_ports(links: &[RawLink]) -> bool
     ensures { result ≡ list_all has_router_ports links.now }
 {
-    links.iter().all(|link| is_between(link.out, 0, 6) && is_between(link.input, 0, 6))
+    links
+        .iter()
+        .all(|link| is_router_port(link.out) && is_router_port(link.input))
 }
 
-// Whether two links leave one tile by one port.
-fn leave_alike(links: &[RawLink]) -> bool
-    ensures { result ≡ has_twin leaves_alike links.now }
+// Whether a port is one of a router's.
+fn is_router_port(port: i64) -> bool
+    ensures { result ≡ is_router_port port }
 {
-    match links {
-        [] => false,
-        [one, rest @ ..] => leaves_with(one, rest) || leave_alike(rest),
+    0 <= port && port < i64::from(ROUTER_PORTS)
+}
+
+// Links that leave one tile by one port.
+struct Leaving;
+
+impl Likeness<RawLink> for Leaving {
+    ghost use Rattle.platform_model.specs.Links.{leaves_alike};
+
+    ghost alike = { leaves_alike };
+
+    fn are_alike(one: &RawLink, other: &RawLink) -> bool {
+        one.from == other.from && one.out == other.out
     }
 }
 
-// Whether a link leaves its tile by the port of one of the others.
-fn leaves_with(one: &RawLink, others: &[RawLink]) -> bool
-    ensures { result ≡ list_any (leaves_alike one.now) others.now }
-{
-    others
-        .iter()
-        .any(|other| one.from == other.from && one.out == other.out)
-}
+// Links that enter one tile by one port.
+struct Entering;
 
-// Whether two links enter one tile by one port.
-fn enter_alike(links: &[RawLink]) -> bool
-    ensures { result ≡ has_twin enters_alike links.now }
-{
-    match links {
-        [] => false,
-        [one, rest @ ..] => enters_with(one, rest) || enter_alike(rest),
+impl Likeness<RawLink> for Entering {
+    ghost use Rattle.platform_model.specs.Links.{enters_alike};
+
+    ghost alike = { enters_alike };
+
+    fn are_alike(one: &RawLink, other: &RawLink) -> bool {
+        one.to == other.to && one.input == other.input
     }
 }
 
-// Whether a link enters its tile by the port of one of the others.
-fn enters_with(one: &RawLink, others: &[RawLink]) -> bool
-    ensures { result ≡ list_any (enters_alike one.now) others.now }
+// Whether two links leave one tile by one port, or enter one.
+fn share_ports(links: &[RawLink]) -> bool
+    ensures { result ≡ (has_twin leaves_alike links.now || has_twin enters_alike links.now) }
 {
-    others
-        .iter()
-        .any(|other| one.to == other.to && one.input == other.input)
+    has_twin::<RawLink, Leaving>(links) || has_twin::<RawLink, Entering>(links)
 }
 
-// Whether each cost is from 1 to 64 cycles.
+// Whether each cost is one that an instruction may have.
 fn are_in_range(costs: &RawCosts) -> bool
     ensures { result ≡ are_costs costs.now }
 {
@@ -137,7 +168,7 @@ fn are_in_range(costs: &RawCosts) -> bool
         costs.device,
         costs.system,
     ];
-    all.iter().all(|cost| is_between(*cost, 1, 64))
+    all.iter().all(|cost| is_between(*cost, 1, i64::from(MOST_COST)))
 }
 
 #[cfg(test)]
@@ -174,8 +205,8 @@ mod tests {
             let links = [link(one), link(other)];
             assert_eq!(rt; join_tiles(2, &links), joined, "at {one:?} {other:?}");
             assert_eq!(rt; have_router_ports(&links), within, "at {one:?} {other:?}");
-            assert_eq!(rt; leave_alike(&links), left, "at {one:?} {other:?}");
-            assert_eq!(rt; enter_alike(&links), entered, "at {one:?} {other:?}");
+            assert_eq!(rt; has_twin::<RawLink, Leaving>(&links), left, "at {one:?} {other:?}");
+            assert_eq!(rt; has_twin::<RawLink, Entering>(&links), entered, "at {one:?} {other:?}");
         }
     }
 
@@ -186,39 +217,13 @@ mod tests {
             for _ in 0..count {
                 links.push(link([0, 0, 1, 0]))?;
             }
-            assert_eq!(rt;
-                is_broken(PRule::P9, &with_links(links)),
-                broken,
-                "at {count}"
-            );
+            let raw = RawPlatform {
+                tiles: 2,
+                links,
+                ..RawPlatform::plain(rt.alloc())
+            };
+            assert_eq!(rt; is_broken(PRule::P9, &raw), broken, "at {count}");
         }
         Ok(())
-    }
-
-    fn with_links(links: Items<RawLink>) -> RawPlatform {
-        RawPlatform {
-            tiles: 2,
-            mem_bytes: 4096,
-            slot_cycles: 8,
-            table_slots: 8,
-            kernel_cycles: 72,
-            partition_cycles: 56,
-            partition_slots: 2,
-            ports: 2,
-            queue: 8,
-            links,
-            costs: RawCosts {
-                integer: 1,
-                mul: 3,
-                div: 34,
-                load: 2,
-                store: 2,
-                taken: 3,
-                untaken: 1,
-                jump: 3,
-                device: 4,
-                system: 1,
-            },
-        }
     }
 }

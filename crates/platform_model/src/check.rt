@@ -2,18 +2,25 @@
 
 ghost use Rattle.std.specs.Prelude.{◌≡◌, ◌≤◌, pos, map, None, IsTrue, IfOk};
 ghost use Rattle.std.specs.List.{list_all};
+ghost use Rattle.soc_base.specs.declared.limits.TheConstants.{MOST_TILES, MOST_COST};
 ghost use Rattle.platform_model.specs.Limits.{is_within};
 ghost use Rattle.platform_model.specs.Links.{raw_link, joins_tiles, has_router_ports};
-ghost use Rattle.platform_model.specs.Rules.{are_costs, first_rule};
+ghost use Rattle.platform_model.specs.Rules.{is_cost, are_costs, first_rule};
 ghost use Rattle.platform_model.specs.Platform.{Judges, raw_costs, raw_of};
+ghost use Rattle.platform_model.specs.declared.raw.TheConstants.{DEFAULT_COSTS};
+ghost use Rattle.platform_model.specs.Plain.{plain_platform};
 
 use crate::broken::first_broken;
 use crate::costs::Costs;
 use crate::link::Link;
 use crate::platform::Platform;
-use crate::raw::{RawCosts, RawLink, RawPlatform};
+use crate::raw::{DEFAULT_COSTS, RawCosts, RawLink, RawPlatform};
 use crate::rules::PlatformFault;
-use soc_base::{Items, NoMemory};
+use soc_base::{
+    Items, LEAST_KERNEL_CYCLES, LEAST_MEMORY, MOST_COST, MOST_KERNEL_CYCLES, MOST_MEMORY,
+    MOST_PARTITION_CYCLES, MOST_PARTITION_SLOTS, MOST_PORTS, MOST_QUEUE, MOST_SLOT_CYCLES,
+    MOST_TABLE_SLOTS, MOST_TILES, NoMemory,
+};
 use std::alloc::Global;
 
 impl Platform {
@@ -26,10 +33,24 @@ impl Platform {
         if let Some(rule) = first_broken(raw) {
             return Err(PlatformFault::Rule(rule));
         }
-        match links_of(alloc, raw.links.as_slice()) {
-            Ok(links) => Ok(platform_of(raw, links)),
-            Err(NoMemory) => Err(PlatformFault::NoMemory),
-        }
+        let links = links_of(alloc, raw.links.as_slice())?;
+        Ok(platform_of(raw, links))
+    }
+
+    /// Makes the plain platform, from which tests and examples begin.
+    pub fn plain(alloc: Global) -> Result<Platform, PlatformFault>
+        ensures { IfOk result (λ platform. raw_of platform ≡ plain_platform) }
+    {
+        Platform::check(alloc, &RawPlatform::plain(alloc))
+    }
+}
+
+impl Costs {
+    /// Answers the default costs: what instructions cost where a platform file doesn't say otherwise.
+    pub fn standard() -> Costs
+        ensures { raw_costs result ≡ DEFAULT_COSTS }
+    {
+        costs_of(&DEFAULT_COSTS)
     }
 }
 
@@ -40,15 +61,19 @@ fn platform_of(raw: &RawPlatform, links: Items<Link>) -> Platform
     ensures { raw_of result ≡ raw.now }
 {
     Platform {
-        tiles: within(raw.tiles, 1, 32) as u8,
-        mem_bytes: within(raw.mem_bytes, 16, 1_048_576),
-        slot_cycles: within(raw.slot_cycles, 1, 64) as u8,
-        table_slots: within(raw.table_slots, 1, 64) as u8,
-        kernel_cycles: within(raw.kernel_cycles, 66, 4096) as u16,
-        partition_cycles: within(raw.partition_cycles, 1, 65_536),
-        partition_slots: within(raw.partition_slots, 1, 16) as u8,
-        ports: within(raw.ports, 0, 16) as u8,
-        queue: within(raw.queue, 1, 63) as u8,
+        tiles: byte_within(raw.tiles, 1, MOST_TILES),
+        mem_bytes: within(raw.mem_bytes, LEAST_MEMORY, MOST_MEMORY),
+        slot_cycles: byte_within(raw.slot_cycles, 1, MOST_SLOT_CYCLES),
+        table_slots: byte_within(raw.table_slots, 1, MOST_TABLE_SLOTS),
+        kernel_cycles: within(
+            raw.kernel_cycles,
+            u32::from(LEAST_KERNEL_CYCLES),
+            u32::from(MOST_KERNEL_CYCLES),
+        ) as u16,
+        partition_cycles: within(raw.partition_cycles, 1, MOST_PARTITION_CYCLES),
+        partition_slots: byte_within(raw.partition_slots, 1, MOST_PARTITION_SLOTS),
+        ports: byte_within(raw.ports, 0, MOST_PORTS),
+        queue: byte_within(raw.queue, 1, MOST_QUEUE),
         links,
         costs: costs_of(&raw.costs),
     }
@@ -64,14 +89,24 @@ fn within(number: i64, least: u32, greatest: u32) -> u32
     number as u32
 }
 
+// A raw number in its range, which a byte holds.
+fn byte_within(number: i64, least: u8, greatest: u8) -> u8
+    requires { IsTrue (is_within number (pos least) (pos greatest)) }
+    ensures same { pos result ≡ number }
+    ensures least { least ≤ result }
+    ensures greatest { result ≤ greatest }
+{
+    number as u8
+}
+
 // A cost in its range.
 fn cost(cycles: i64) -> u8
-    requires { IsTrue (is_within cycles (pos 1) (pos 64)) }
+    requires { IsTrue (is_cost cycles) }
     ensures same { pos result ≡ cycles }
     ensures least { 1 ≤ result }
-    ensures greatest { result ≤ 64 }
+    ensures greatest { result ≤ MOST_COST }
 {
-    cycles as u8
+    byte_within(cycles, 1, MOST_COST)
 }
 
 // The costs that raw numbers mean.
@@ -95,7 +130,7 @@ fn costs_of(raw: &RawCosts) -> Costs
 
 // The links that raw numbers mean.
 fn links_of(alloc: Global, raw: &[RawLink]) -> Result<Items<Link>, NoMemory>
-    requires join { IsTrue (list_all (joins_tiles (pos 32)) raw.now) }
+    requires join { IsTrue (list_all (joins_tiles (pos MOST_TILES)) raw.now) }
     requires ports { IsTrue (list_all has_router_ports raw.now) }
     ensures { IfOk result (λ links. map raw_link links ≡ raw.now) }
 {
@@ -108,7 +143,7 @@ fn links_of(alloc: Global, raw: &[RawLink]) -> Result<Items<Link>, NoMemory>
 
 // The link that raw numbers mean.
 fn link_of(raw: &RawLink) -> Link
-    requires joins { IsTrue (joins_tiles (pos 32) raw.now) }
+    requires joins { IsTrue (joins_tiles (pos MOST_TILES) raw.now) }
     requires ports { IsTrue (has_router_ports raw.now) }
     ensures { raw_link result ≡ raw.now }
 {
@@ -126,19 +161,7 @@ mod tests {
     use crate::rules::PRule;
     use std::test::Fail;
 
-    const COSTS: RawCosts = RawCosts {
-        integer: 1,
-        mul: 3,
-        div: 34,
-        load: 2,
-        store: 2,
-        taken: 3,
-        untaken: 1,
-        jump: 3,
-        device: 4,
-        system: 1,
-    };
-
+    // The numbers of the plain platform, in the order of the file.
     const NUMBERS: [i64; 9] = [1, 4096, 8, 8, 72, 56, 2, 2, 8];
 
     fn raw(alloc: Global, numbers: [i64; 9], costs: RawCosts) -> RawPlatform {
@@ -168,7 +191,7 @@ mod tests {
 
     #[test]
     fn keeps_the_numbers(rt: HostRuntime) -> Result<(), Fail> {
-        let raw = raw(rt.alloc(), [1, 4096, 8, 9, 72, 56, 2, 3, 7], COSTS);
+        let raw = raw(rt.alloc(), [1, 4096, 8, 9, 72, 56, 2, 3, 7], DEFAULT_COSTS);
         let platform = Platform::check(rt.alloc(), &raw)?;
         assert_eq!(rt; platform.tiles, 1);
         assert_eq!(rt; platform.mem_bytes, 4096);
@@ -220,7 +243,7 @@ mod tests {
             if let Some(number) = numbers.get_mut(place) {
                 *number = value;
             }
-            let raw = raw(rt.alloc(), numbers, COSTS);
+            let raw = raw(rt.alloc(), numbers, DEFAULT_COSTS);
             assert_eq!(rt; judged(rt.alloc(), &raw)?, rule, "{value} at {place}");
         }
         Ok(())
@@ -231,14 +254,14 @@ mod tests {
         let numbers = [1, 24, 8, 8, 72, 56, 2, 2, 64];
         let low = RawCosts {
             integer: 0,
-            ..COSTS
+            ..DEFAULT_COSTS
         };
         let high = RawCosts {
             system: 65,
-            ..COSTS
+            ..DEFAULT_COSTS
         };
         for (raw, rule) in [
-            (raw(rt.alloc(), NUMBERS, COSTS), None),
+            (raw(rt.alloc(), NUMBERS, DEFAULT_COSTS), None),
             (raw(rt.alloc(), NUMBERS, low), Some(PRule::P12)),
             (raw(rt.alloc(), NUMBERS, high), Some(PRule::P12)),
             (raw(rt.alloc(), numbers, high), Some(PRule::P5)),

@@ -1,8 +1,9 @@
 //! What instructions cost.
 
 ghost use Rattle.std.specs.Prelude.{◌<◌, ◌≤◌};
+ghost use Rattle.soc_base.specs.declared.limits.TheConstants.{MOST_COST};
 
-/// What instructions cost on a platform, in cycles from 1 to 64.
+/// What instructions cost on a platform, in cycles from 1 to `MOST_COST`.
 #[derive(Clone, Copy, Debug)]
 pub struct Costs {
     /// An instruction on integers with no row of its own.
@@ -25,14 +26,14 @@ pub struct Costs {
     pub device: u8,
     /// FENCE, ECALL and EBREAK.
     pub system: u8,
-    pub ghost integer_in_range: { (0 < integer) × (integer ≤ 64) },
-    pub ghost mul_in_range: { (0 < mul) × (mul ≤ 64) },
-    pub ghost div_in_range: { (0 < div) × (div ≤ 64) },
-    pub ghost load_in_range: { (0 < load) × (load ≤ 64) },
-    pub ghost store_in_range: { (0 < store) × (store ≤ 64) },
-    pub ghost taken_in_range: { (0 < taken) × (taken ≤ 64) },
-    pub ghost untaken_in_range: { (0 < untaken) × (untaken ≤ 64) },
-    pub ghost jump_in_range: { (0 < jump) × (jump ≤ 64) },
-    pub ghost device_in_range: { (0 < device) × (device ≤ 64) },
-    pub ghost system_in_range: { (0 < system) × (system ≤ 64) },
+    pub ghost integer_in_range: { (0 < integer) × (integer ≤ MOST_COST) },
+    pub ghost mul_in_range: { (0 < mul) × (mul ≤ MOST_COST) },
+    pub ghost div_in_range: { (0 < div) × (div ≤ MOST_COST) },
+    pub ghost load_in_range: { (0 < load) × (load ≤ MOST_COST) },
+    pub ghost store_in_range: { (0 < store) × (store ≤ MOST_COST) },
+    pub ghost taken_in_range: { (0 < taken) × (taken ≤ MOST_COST) },
+    pub ghost untaken_in_range: { (0 < untaken) × (untaken ≤ MOST_COST) },
+    pub ghost jump_in_range: { (0 < jump) × (jump ≤ MOST_COST) },
+    pub ghost device_in_range: { (0 < device) × (device ≤ MOST_COST) },
+    pub ghost system_in_range: { (0 < system) × (system ≤ MOST_COST) },
 }

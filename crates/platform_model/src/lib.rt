@@ -2,8 +2,9 @@
 //! rules by which the numbers of a platform file are judged.
 //!
 //! `specs/` has the meanings: `Limits` (tests of raw numbers), `Links` (what is asked of links),
-//! `Rules` (the rules P4 to P12 and the least that is broken) and `Platform` (a platform's raw
-//! numbers, and the times of its frame).
+//! `Rules` (the rules P4 to P12 and the least that is broken), `Words` (the words of the rules),
+//! `Platform` (a platform's raw numbers, and the times of its frame) and `Plain` (the platform from
+//! which tests begin).
 #![tactic(auto)]
 
 /// Whether raw numbers break a rule.
@@ -27,5 +28,5 @@ pub use costs::Costs;
 pub use link::Link;
 pub use platform::Platform;
 pub use range::{divides, is_between};
-pub use raw::{RawCosts, RawLink, RawPlatform};
+pub use raw::{DEFAULT_COSTS, RawCosts, RawLink, RawPlatform};
 pub use rules::{PRule, PlatformFault};

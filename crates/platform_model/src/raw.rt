@@ -1,6 +1,10 @@
 //! The numbers of a platform file as they stand there, before any rule has judged them.
 
+ghost use Rattle.std.specs.Prelude.{◌≡◌};
+ghost use Rattle.platform_model.specs.Plain.{plain_platform};
+
 use soc_base::Items;
+use std::alloc::Global;
 
 /// The numbers of one link, as they stand in a file.
 #[derive(Clone, Copy, Debug)]
@@ -40,6 +44,20 @@ pub struct RawCosts {
     pub system: i64,
 }
 
+/// What instructions cost where a platform file doesn't say otherwise.
+pub const DEFAULT_COSTS: RawCosts = RawCosts {
+    integer: 1,
+    mul: 3,
+    div: 34,
+    load: 2,
+    store: 2,
+    taken: 3,
+    untaken: 1,
+    jump: 3,
+    device: 4,
+    system: 1,
+};
+
 /// The numbers of a platform file, as they stand there.
 #[derive(Debug, Drop)]
 pub struct RawPlatform {
@@ -65,4 +83,27 @@ pub struct RawPlatform {
     pub links: Items<RawLink>,
     /// What instructions cost.
     pub costs: RawCosts,
+}
+
+impl RawPlatform {
+    /// Makes the numbers of the plain platform, from which tests and examples begin: one tile of 4096
+    /// bytes, frames of 72 and 56 cycles with two partition slots, no links, and the default costs.
+    /// Takes no memory.
+    pub fn plain(alloc: Global) -> RawPlatform
+        ensures { result ≡ plain_platform }
+    {
+        RawPlatform {
+            tiles: 1,
+            mem_bytes: 4096,
+            slot_cycles: 8,
+            table_slots: 8,
+            kernel_cycles: 72,
+            partition_cycles: 56,
+            partition_slots: 2,
+            ports: 2,
+            queue: 8,
+            links: Items::new(alloc),
+            costs: DEFAULT_COSTS,
+        }
+    }
 }

@@ -1,5 +1,5 @@
 -- What the lines so far say of a whole script.
-use Rattle.std.proofs.Common.{◌≡◌, ℕ, ◌+◌, ◌<◌, ◌≤◌, Bool, true, false, List, [], ◌∷◌, ◌++◌, length, map, take, drop, get_or, min, cond, nat_lt, if◌then◌else◌, Option, Some, None, Result, Ok, Err, refl, sym, ap, ◌∙◌, append_assoc, length-append, arith}
+use Rattle.std.proofs.Common.{◌≡◌, ℕ, ◌+◌, ◌<◌, ◌≤◌, Bool, true, false, List, [], ◌∷◌, ◌++◌, length, map, take, drop, get_or, min, cond, nat_lt, Option, Some, None, Result, Ok, Err, refl, sym, ap, ◌∙◌, append_assoc, length-append, arith}
 use Rattle.std.specs.List.{slice_split, cons_option}
 use Rattle.std.specs.Str.Lines.{strip_carriage_return}
 use Rattle.std.proofs.lemmas.Bool.{lt-ltb, le-ltb, ltb-true, ltb-false}
@@ -7,7 +7,8 @@ use Rattle.std.proofs.lemmas.List.{append-nil, take-append-le, take_all, drop_mo
 use Rattle.std.proofs.lemmas.List.Splits.{length-slice_split}
 use Rattle.std.proofs.lemmas.List.Sums.{count_by-le-length}
 use Rattle.script_file.specs.Lines.{is_line_feed, without_empty_end, lines_of}
-use Rattle.script_file.specs.Commands.{first_fault, fault_or, commands_of, command_in, line_meaning, script_meant, unless_fault, within_room}
+use Rattle.script_file.specs.Commands.{first_fault, fault_or, commands_in_lines, command_in, line_meaning, script_meant, unless_fault, within_room}
+use Rattle.script_file.specs.inner.Keeping.{kept_with}
 use Rattle.script_file.specs.declared.command.Command.{Command}
 use Rattle.script_file.specs.declared.rules.SRule.{SRule}
 use Rattle.script_file.specs.declared.rules.ScriptFault.{ScriptFault}
@@ -22,7 +23,7 @@ fault_in number pieces = first_fault number (map strip_carriage_return pieces)
 
 -- the commands of the lines that pieces are
 abbrev pub commands_in : List (List ℕ) → List Command
-commands_in pieces = commands_of (map strip_carriage_return pieces)
+commands_in pieces = commands_in_lines (map strip_carriage_return pieces)
 
 -- the last empty piece is a blank line
 fault_of_all : (number : ℕ) (pieces : List (List ℕ)) → fault_in number (without_empty_end pieces) ≡ fault_in number pieces
@@ -43,7 +44,7 @@ meant_by fault room commands = unless_fault fault (within_room room commands)
 whole : (bytes : List ℕ) (room : ℕ) → script_meant bytes room ≡ meant_by (fault_in 1 (pieces_of bytes)) room (commands_in (pieces_of bytes))
 unfolding script_meant
 whole bytes room =
-    ap (λ fault. meant_by fault room (commands_of (lines_of bytes))) (fault_of_all 1 (pieces_of bytes))
+    ap (λ fault. meant_by fault room (commands_in_lines (lines_of bytes))) (fault_of_all 1 (pieces_of bytes))
     ∙ ap (meant_by (fault_in 1 (pieces_of bytes)) room) (commands_of_all (pieces_of bytes))
 
 pub few_pieces : (bytes : List ℕ) → length (pieces_of bytes) ≤ length bytes + 1
@@ -51,9 +52,6 @@ few_pieces bytes =
     let same = length-slice_split is_line_feed bytes in
     let few = count_by-le-length is_line_feed bytes in
     omega (arith, same, few)
-
-abbrev pub grown : ℕ → ℕ → List Command → Option Command → List Command
-grown room count commands command = if nat_lt count room then commands ++ cons_option command [] else commands
 
 -- so many pieces were read: none breaks a rule, and they have so many commands, of which those are
 -- kept that there is room for
@@ -101,7 +99,7 @@ IsNext bytes done piece = (done < length (pieces_of bytes)) × (piece ≡ get_or
 left_at : (bytes : List ℕ) (done : ℕ) (piece : List ℕ) → IsNext bytes done piece → drop done (pieces_of bytes) ≡ piece ∷ drop (done + 1) (pieces_of bytes)
 left_at bytes done piece next = drop_more (pieces_of bytes) done piece next.0 ∙ ap (λ p. p ∷ drop (done + 1) (pieces_of bytes)) (sym next.1)
 
-pub read_more : (bytes : List ℕ) (room done number count : ℕ) (commands : List Command) (piece : List ℕ) (command : Option Command) → IsRead bytes room done number count commands → IsNext bytes done piece → line_meaning (strip_carriage_return piece) ≡ Ok command → IsRead bytes room (done + 1) (number + 1) (count + length (cons_option command [])) (grown room count commands command)
+pub read_more : (bytes : List ℕ) (room done number count : ℕ) (commands : List Command) (piece : List ℕ) (command : Option Command) → IsRead bytes room done number count commands → IsNext bytes done piece → line_meaning (strip_carriage_return piece) ≡ Ok command → IsRead bytes room (done + 1) (number + 1) (count + length (cons_option command [])) (kept_with commands count room command)
 read_more bytes room done number count commands piece command read next meant =
     let at = left_at bytes done piece next in
     let tail = drop (done + 1) (pieces_of bytes) in

@@ -1,12 +1,7 @@
 -- The first five words of a line tell what it means.
-use Rattle.std.proofs.Common.{◌≡◌, ℕ, List, [], ◌∷◌, length, take, if◌then◌else◌, Option, None, Result, Ok, refl, arith}
+use Rattle.std.proofs.Common.{◌≡◌, ℕ, List, [], ◌∷◌, length, take, refl, arith}
 use Rattle.std.proofs.lemmas.Bool.{ne_eqb}
-use Rattle.script_file.specs.Commands.{is_remark, command_of}
-use Rattle.script_file.specs.declared.command.Command.{Command}
-use Rattle.script_file.specs.declared.rules.SRule.{SRule}
-
-abbrev pub words_meaning : List (List ℕ) → Result (Option Command) SRule
-words_meaning words = if is_remark words then Ok None else command_of words
+use Rattle.script_file.specs.Commands.{words_meaning}
 
 pub five_tell : (words : List (List ℕ)) → words_meaning (take 5 words) ≡ words_meaning words
 five_tell [] = refl

@@ -1,2 +1,4 @@
 pub mod Lines
 pub mod Commands
+pub mod Words
+pub mod inner

@@ -2,7 +2,7 @@
 //! which a script file is judged.
 //!
 //! `specs/Lines` cuts the bytes into lines and the lines into words, and `specs/Commands` says what each
-//! line means by itself and which fault of a script comes first.
+//! line means by itself and which fault of a script comes first. `specs/Words` has the word of each rule.
 #![tactic(auto)]
 
 /// The commands of a session.
@@ -20,4 +20,4 @@ mod tests;
 
 pub use command::{Command, Script};
 pub use reader::read_script;
-pub use rules::{SRule, ScriptFault};
+pub use rules::{MOST_NAME_BYTES, SRule, ScriptFault};

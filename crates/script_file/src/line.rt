@@ -1,22 +1,16 @@
 //! Judging one line.
 
-ghost use Rattle.std.specs.Prelude.{◌≡◌, if◌then◌else◌, map, take, IfOk, IsTrue, Ok, Err, None};
+ghost use Rattle.std.specs.Prelude.{◌≡◌, map, take, IfOk, IsTrue};
 ghost use Rattle.std.specs.List.{list_all};
 ghost use Rattle.std.specs.Str.{bytes_eq};
 ghost use Rattle.std.specs.Str.Lines.{strip_carriage_return};
 ghost use Rattle.script_file.specs.Lines.{is_blank, words_of};
-ghost use Rattle.script_file.specs.Commands.{command_of, is_name, is_name_byte as is_byte_of_name, is_remark, is_within as is_in_range, line_meaning, load_of};
+ghost use Rattle.script_file.specs.Commands.{is_name, is_name_byte as is_byte_of_name, is_between as is_byte_between, line_meaning, load_of, words_meaning};
 
 use crate::command::Command;
-use crate::rules::SRule;
-use soc_base::{NoMemory, Text, read_number};
+use crate::rules::{MOST_NAME_BYTES, SRule};
+use soc_base::{LAST_STATED_CYCLE, NoMemory, Text, read_number};
 use std::alloc::{AllocError, Global};
-
-/// The greatest cycle that a script may state.
-const CYCLE_LIMIT: u64 = 1_000_000_000_000;
-
-/// The most bytes of a name.
-const NAME_LIMIT: usize = 200;
 
 /// How many words of a line are looked at: one more than the longest command has, so that a line with
 /// too many words is told from it, and memory for words does not grow with the line.
@@ -60,7 +54,7 @@ fn is_separator(byte: u8) -> bool
 
 // What the words of a line mean.
 fn judge_words(alloc: Global, words: &[&[u8]]) -> Result<Result<Option<Command>, SRule>, NoMemory>
-    ensures { IfOk result (λ meaning. meaning ≡ (if is_remark (map (λ word. word.now) words.now) then Ok None else command_of (map (λ word. word.now) words.now))) }
+    ensures { let said = map (λ word. word.now) words.now in IfOk result (λ meaning. meaning ≡ words_meaning said) }
 {
     match words {
         [] => Ok(Ok(None)),
@@ -90,7 +84,7 @@ fn load_command(
     if !is_bundle_name(name) {
         return Ok(Err(SRule::S2));
     }
-    let Ok(cycle) = read_number(cycle, CYCLE_LIMIT) else {
+    let Ok(cycle) = read_number(cycle, LAST_STATED_CYCLE) else {
         return Ok(Err(SRule::S3));
     };
     let name = name_text(alloc, name)?;
@@ -101,7 +95,7 @@ fn load_command(
 fn is_bundle_name(word: &[u8]) -> bool
     ensures { result ≡ is_name word.now }
 {
-    word.len() <= NAME_LIMIT && has_name_bytes(word)
+    word.len() <= MOST_NAME_BYTES && has_name_bytes(word)
 }
 
 // Whether each byte may stand in a name.
@@ -115,9 +109,9 @@ fn has_name_bytes(word: &[u8]) -> bool
 fn is_name_byte(byte: u8) -> bool
     ensures { result ≡ is_byte_of_name byte }
 {
-    is_within(byte, b'a', b'z')
-        || is_within(byte, b'A', b'Z')
-        || is_within(byte, b'0', b'9')
+    is_between(byte, b'a', b'z')
+        || is_between(byte, b'A', b'Z')
+        || is_between(byte, b'0', b'9')
         || byte == b'.'
         || byte == b'_'
         || byte == b'-'
@@ -125,8 +119,8 @@ fn is_name_byte(byte: u8) -> bool
 }
 
 // Whether a byte is from this to that one.
-fn is_within(byte: u8, least: u8, most: u8) -> bool
-    ensures { result ≡ is_in_range byte least most }
+fn is_between(byte: u8, least: u8, most: u8) -> bool
+    ensures { result ≡ is_byte_between byte least most }
 {
     least <= byte && byte <= most
 }

@@ -1,22 +1,23 @@
 //! Reading a whole script.
 
-ghost use Rattle.std.specs.Prelude.{◌≡◌, ◌+◌, ◌<◌, ◌≤◌, ◌^◌, ◌-◌, ◌++◌, [], if◌then◌else◌, length, nat_lt, OnOk};
+ghost use Rattle.std.specs.Prelude.{◌≡◌, ◌+◌, ◌<◌, ◌≤◌, ◌^◌, ◌-◌, [], length, OnOk};
 ghost use Rattle.std.specs.List.{cons_option};
-ghost use Rattle.script_file.specs.Commands.{script_meant, Reads};
+ghost use Rattle.script_file.specs.Commands.{script_meant, ReadsScript};
+ghost use Rattle.script_file.specs.inner.Keeping.{kept_with};
 
 use crate::command::{Command, Script};
 use crate::line::judge;
 use crate::rules::ScriptFault;
-use soc_base::{Items, NoMemory};
+use soc_base::{Items, MOST_FILE_BYTES, NoMemory};
 use std::alloc::Global;
 
-/// Reads a script of at most 4,194,304 bytes, where there is room for so many commands. Refuses with
+/// ReadsScript a script of at most 4,194,304 bytes, where there is room for so many commands. Refuses with
 /// the first line that breaks a rule and the least rule that it breaks, or else where there are more
 /// commands than there is room for.
 #[tactic(auto, unfolding(crate::specs::Commands::script_meant))]
 pub fn read_script(alloc: Global, bytes: &[u8], room: u16) -> Result<Script, ScriptFault>
-    requires { length bytes.now ≤ 4194304 }
-    ensures { Reads (script_meant bytes.now room) result }
+    requires { length bytes.now ≤ MOST_FILE_BYTES }
+    ensures { ReadsScript (script_meant bytes.now room) result }
 {
     let mut kept = Kept {
         commands: Items::new(alloc),
@@ -59,7 +60,7 @@ impl Kept {
     fn add(&mut self, command: Option<Command>, room: u16) -> Result<(), NoMemory>
         requires { self.old.count < 2 ^ 32 - 1 }
         ensures count { OnOk result (self.new.count ≡ self.old.count + length (cons_option command [])) }
-        ensures commands { OnOk result (self.new.commands ≡ (if nat_lt self.old.count room then self.old.commands ++ cons_option command [] else self.old.commands)) }
+        ensures commands { OnOk result (self.new.commands ≡ kept_with self.old.commands self.old.count room command) }
     {
         let Some(command) = command else {
             return Ok(());

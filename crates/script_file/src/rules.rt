@@ -1,6 +1,12 @@
 //! The rules of scripts.
 
+ghost use Rattle.std.specs.Prelude.{◌≡◌, ◌≤◌, length};
+ghost use Rattle.script_file.specs.Words.{script_rule_word};
+
 use thiserror::Error;
+
+/// The most bytes of a bundle file's name in a script.
+pub const MOST_NAME_BYTES: usize = 200;
 
 /// A rule that each line of a script keeps.
 #[derive(Clone, Copy, Debug, PartialEq, Eq, Error)]
@@ -15,6 +21,20 @@ pub enum SRule {
     /// CYCLE is decimal digits, with a value of at most 1,000,000,000,000.
     #[error("a number is no decimal digits or out of range")]
     S3,
+}
+
+impl SRule {
+    /// Answers the word of the rule, as refusals print it: `S1` to `S3`.
+    pub fn word(self) -> &'static str
+        ensures text { result.now ≡ script_rule_word self }
+        ensures short { length result.now ≤ 2 }
+    {
+        match self {
+            SRule::S1 => "S1",
+            SRule::S2 => "S2",
+            SRule::S3 => "S3",
+        }
+    }
 }
 
 /// Why there is no script.

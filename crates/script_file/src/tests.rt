@@ -1,10 +1,11 @@
 use crate::{Command, SRule, Script, ScriptFault, read_script};
+use soc_base::MOST_FILE_BYTES;
 use std::alloc::{AllocError, Global};
 use std::test::Fail;
 
 /// The script that bytes are, where there is room for so many commands.
 fn read(alloc: Global, bytes: &[u8], room: u16) -> Result<Script, ScriptFault> {
-    if bytes.len() > 4_194_304 {
+    if bytes.len() > MOST_FILE_BYTES {
         return Err(ScriptFault::NoMemory);
     }
     read_script(alloc, bytes, room)

@@ -28,6 +28,8 @@ mod number;
 mod region;
 /// Slots of cycles.
 mod slot;
+/// Lists in which two items are alike.
+mod twins;
 /// The words of a command line.
 mod words;
 
@@ -47,4 +49,5 @@ pub use memory::NoMemory;
 pub use number::{NumFault, read_number};
 pub use region::{Region, Width};
 pub use slot::slot_up;
+pub use twins::{Likeness, has_twin};
 pub use words::Words;

@@ -8,6 +8,7 @@ use Rattle.soc_base.specs.Widths.{width_bytes}
 use Rattle.tile_memory.specs.declared.memory.MemFault.{MemFault}
 use Rattle.tile_memory.specs.declared.memory.MemFault.TheVariants.{Align, Outside}
 
+-- the region lies in the memory
 abbrev pub IsInside : List ℕ → Region → Type 0
 IsInside memory region = region.base + region.len ≤ length memory
 
@@ -28,6 +29,7 @@ abbrev pub refusal_of : ℕ → ℕ → Width → Option MemFault
 refusal_of len addr width =
     if not (addr % width_bytes width == 0) then Some Align else (if nat_lt len (addr + width_bytes width) then Some Outside else None)
 
+-- the answer of an access: a value, or why it was refused
 abbrev pub answered : {T : Type 0} → Option MemFault → T → Result T MemFault
 answered None value = Ok value
 answered (Some fault) value = Err fault
@@ -41,6 +43,7 @@ load_of bytes addr width = answered (refusal_of (length bytes) addr width) (litt
 abbrev pub fetch_of : List ℕ → ℕ → Option ℕ
 fetch_of bytes addr = if nat_le (addr + 4) (length bytes) then Some (little_number 4 (drop addr bytes)) else None
 
+-- what a store to a region answers
 abbrev pub store_answer_of : List ℕ → ℕ → Width → Result Unit MemFault
 store_answer_of bytes addr width = answered (refusal_of (length bytes) addr width) tt
 

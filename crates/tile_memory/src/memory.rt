@@ -2,6 +2,7 @@
 
 ghost use Rattle.std.specs.Prelude.{◌≡◌, ◌+◌, ◌*◌, ◌%◌, ◌^◌, ◌<◌, ◌≤◌, length, replicate, IfOk, OnOk, OnErr};
 ghost use Rattle.soc_base.specs.Widths.{width_bytes};
+ghost use Rattle.soc_base.specs.declared.limits.TheConstants.{MOST_MEMORY};
 ghost use Rattle.tile_memory.specs.Bytes.{IsInside, region_bytes, with_region, filled_bytes, load_of, fetch_of, store_answer_of, stored_bytes, word_of};
 
 use crate::access;
@@ -46,10 +47,10 @@ fn bounds(region: Region) -> (usize, usize)
 }
 
 impl TileMemory {
-    /// Makes a memory of so many bytes (a multiple of 16, at most 1,048,576), all zero.
+    /// Makes a memory of so many bytes (a multiple of 16, at most `MOST_MEMORY`), all zero.
     pub fn new(alloc: Global, bytes: u32) -> Result<TileMemory, NoMemory>
         requires rows { bytes % 16 ≡ 0 }
-        requires most { bytes ≤ 1048576 }
+        requires most { bytes ≤ MOST_MEMORY }
         ensures { IfOk result (λ m. m ≡ replicate bytes 0) }
     {
         let bytes = Vec::from_elem(alloc, 0u8, bytes as usize)?;

@@ -7,6 +7,8 @@
 mod cycle;
 /// The bus of one part.
 mod part_bus;
+/// The cycles of a part over its region.
+mod run;
 
 /// Accesses and cycles worked out by hand.
 #[cfg(test)]
@@ -14,3 +16,4 @@ mod tests;
 
 pub use cycle::cycle_part;
 pub use part_bus::PartBus;
+pub use run::PartOnTile;

@@ -1,6 +1,6 @@
 //! Rows of a trace, their kinds, and the ends of parts.
 
-ghost use Rattle.std.specs.Prelude.{◌≡◌, ◌<◌};
+ghost use Rattle.std.specs.Prelude.{◌≡◌, ◌<◌, length};
 
 use soc_base::Cause;
 
@@ -18,7 +18,20 @@ pub enum Kind {
 }
 
 impl Kind {
-    ghost use Rattle.trace_log.specs.Kinds.{phase_of, has_kind};
+    ghost use Rattle.trace_log.specs.Kinds.{kind_text, phase_of, has_kind};
+
+    /// Answers the kind's word, as it stands in files and in traces.
+    pub fn word(self) -> &'static str
+        ensures text { result.now ≡ kind_text self }
+        ensures short { length result.now ≡ 4 }
+    {
+        match self {
+            Kind::Word => "word",
+            Kind::Send => "send",
+            Kind::Recv => "recv",
+            Kind::Step => "step",
+        }
+    }
 
     /// Answers the phase of the kind, from 0 to 3: rows of one cycle and tile stand in order of their
     /// phases, and the kinds that a part names are the bits of a set by phase.

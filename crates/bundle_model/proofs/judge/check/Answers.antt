@@ -5,8 +5,8 @@ use Rattle.bundle_model.specs.WellFormed.{IsWellFormed}
 use Rattle.bundle_model.proofs.Unbroken.{well_formed}
 use Rattle.bundle_model.proofs.judge.check.Goals as goal
 
-pub returns-in-Ok-clause-well_formed : goal.returns-in-Ok-clause-well_formed
-returns-in-Ok-clause-well_formed c =
+pub returns-clause-well_formed : goal.returns-clause-well_formed
+returns-clause-well_formed c =
     let none : first_rule c.args.platform.now c.args.raw.now ≡ None = search rules in
-    let same : c.in-Ok.bundle ≡ bundle_of c.args.raw.now = search rules in
+    let same : c.in_ok-bundle.bundle ≡ bundle_of c.args.raw.now = search rules in
     subst (IsWellFormed c.args.platform.now) (sym same) (well_formed c.args.platform.now c.args.raw.now none)

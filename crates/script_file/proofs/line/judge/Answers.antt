@@ -1,8 +1,8 @@
 use Rattle.std.proofs.Common.{◌≡◌, map, IfOk, ap, ◌∙◌, subst}
 use Rattle.std.specs.Str.Lines.{strip_carriage_return}
 use Rattle.script_file.specs.Lines.{words_of}
-use Rattle.script_file.specs.Commands.{line_meaning}
-use Rattle.script_file.proofs.Words.{words_meaning, five_tell}
+use Rattle.script_file.specs.Commands.{line_meaning, words_meaning}
+use Rattle.script_file.proofs.Words.{five_tell}
 use Rattle.script_file.proofs.line.judge.Goals as goal
 
 pub returns : goal.returns

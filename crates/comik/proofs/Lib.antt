@@ -1,0 +1,12 @@
+pub mod Blending
+pub mod Times
+pub mod Places
+pub mod Switches
+pub mod Rows
+pub mod Least
+pub mod Owners
+pub mod Parts
+pub mod Whole
+pub mod Still
+pub mod Turns
+pub mod Laws

@@ -1,0 +1,3 @@
+-- What is proved of this crate's definitions, for the proofs of the crates above. They cite this file
+-- alone.
+pub use Rattle.part_model.proofs.Stretches.{ended_still, ended_stays, waits_for, does_in, cost_of_word}

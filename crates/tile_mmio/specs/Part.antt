@@ -1,0 +1,23 @@
+-- What a part on a tile stands for.
+use Rattle.std.specs.Prelude.{ℕ, ◌+◌, List, take, drop, length}
+use Rattle.std.specs.Borrow.{GName}
+use Rattle.soc_base.specs.declared.region.Region.{Region}
+use Rattle.tile_memory.specs.Bytes.{region_bytes}
+use Rattle.part_model.specs.Part.{PartState}
+use Rattle.tile_mmio.specs.declared.run.PartOnTile.{PartOnTile}
+
+-- the part as its application sees it: its registers, the cycles that are left, the bytes of its region
+-- and its log
+abbrev pub state_of : PartOnTile → PartState
+state_of p = record { regs = p.regs.now; left = p.left.now; bytes = region_bytes p.memory.now p.region; log = p.log.now }
+
+-- what no cycle of the part changes: the loans, the region, the bytes before and after it, and the
+-- memory's size
+abbrev pub rest_of : PartOnTile → (GName × GName × GName × GName) × Region × List ℕ × List ℕ × ℕ
+rest_of p = (
+  (p.regs.ghost_name, p.left.ghost_name, p.memory.ghost_name, p.log.ghost_name),
+  p.region,
+  take p.region.base p.memory.now,
+  drop (p.region.base + p.region.len) p.memory.now,
+  length p.memory.now,
+)
