@@ -3,7 +3,7 @@ use Rattle.std.proofs.Common.{◌≡◌, ℕ, ◌*◌, ◌≤◌, List, length, 
 use Rattle.std.proofs.lemmas.List.{length-replicate}
 use Rattle.bundle_model.specs.declared.bundle.Part.{Part}
 use Rattle.tile_memory.specs.Bytes.{IsInside, region_bytes, with_region, filled_bytes}
-use Rattle.tile_memory.proofs.Regions.{length-with_region, region-with_region, length-filled_bytes}
+use Rattle.tile_memory.proofs.Laws.{length-with_region, region-with_region, length-filled_bytes}
 use Rattle.alone_model.specs.App.{own_region}
 
 inside_zeros : (part : Part) → IsInside (replicate part.region.len 0) (own_region part)

@@ -24,6 +24,7 @@ pub record AppPart : Type 0 where
 pub record AppState : Type 0 where
   pub parts : List AppPart
 
+-- what stays of a part while it runs
 abbrev pub place_of : Part → Place
 place_of part = record { tile = part.tile; kinds = part.kinds }
 
@@ -39,6 +40,7 @@ opening_part part = record {
   state = record { regs = fresh_registers part.entry; left = 0; bytes = filled_bytes part.region.len part.image; log = new_log part.trace };
 }
 
+-- an application when it is granted
 abbrev pub opening : Bundle → AppState
 opening bundle = record { parts = map opening_part bundle.parts }
 

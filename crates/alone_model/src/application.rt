@@ -3,14 +3,12 @@
 ghost use Rattle.std.specs.Prelude.{◌≡◌, ◌-◌, ◌≤◌, map, IfOk};
 ghost use Rattle.bundle_model.specs.WellFormed.{IsWellFormed};
 ghost use Rattle.alone_model.specs.App.{opening_part, part_step};
-ghost use Rattle.std.specs.List.{list_all};
 ghost use Rattle.soc_base.specs.Steps.{after_steps};
-ghost use Rattle.trace_log.specs.Log.{has_ended};
 
 use crate::part::RunningPart;
 use bundle_model::Bundle;
 use platform_model::Platform;
-use soc_base::NoMemory;
+use soc_base::{LAST_CYCLE, NoMemory};
 use std::alloc::Global;
 use std::marker::Model;
 
@@ -28,12 +26,14 @@ impl<'b> Model for Application<'b> {
     ghost view = { λ a. record { parts = a.parts.items } };
 }
 
-// Does what each part does in a cycle.
-fn step_all(parts: &mut [RunningPart<'_>], platform: &Platform, start: u64, cycle: u64)
-    ensures { parts.new ≡ map (part_step platform.now start cycle) parts.old }
+// Does the cycles of each part.
+fn run_each(parts: &mut [RunningPart<'_>], platform: &Platform, from: u64, to: u64)
+    requires ordered { from ≤ to }
+    requires bounded { to ≤ LAST_CYCLE }
+    ensures { parts.new ≡ map (after_steps (part_step platform.now from) from (to - from)) parts.old }
 {
     for part in parts.iter_mut() {
-        part.step(platform, start, cycle);
+        part.run(platform, from, from, to);
     }
 }
 
@@ -70,13 +70,6 @@ impl<'b> Application<'b> {
         Ok(Application { parts })
     }
 
-    /// Answers whether each part has ended.
-    pub fn has_ended(&self) -> bool
-        ensures { result ≡ list_all (λ p. has_ended p.state.log.end) self.now.parts }
-    {
-        self.parts.iter().all(|part| part.has_ended())
-    }
-
     /// Answers the parts, in the order of the bundle.
     pub fn parts(&self) -> &[RunningPart<'b>]
         ensures { result.now ≡ self.now.parts }
@@ -84,24 +77,21 @@ impl<'b> Application<'b> {
         self.parts.as_slice()
     }
 
-    fn step(&mut self, platform: &Platform, start: u64, cycle: u64)
-        ensures { self.new ≡ app_cycle platform.now start cycle self.old }
+    // Does the cycles of the parts.
+    fn run_parts(&mut self, platform: &Platform, from: u64, to: u64)
+        requires ordered { from ≤ to }
+        requires bounded { to ≤ LAST_CYCLE }
+        ensures { self.new ≡ record { parts = map (after_steps (part_step platform.now from) from (to - from)) self.old.parts } }
     {
-        step_all(self.parts.as_mut_slice(), platform, start, cycle);
+        run_each(self.parts.as_mut_slice(), platform, from, to);
     }
 
     /// Does the cycles from `from` to `to - 1` of an application that was granted from cycle `from` on.
-    #[tactic(auto, using(soc_base::proofs::StepLemmas::steps_none, soc_base::proofs::StepLemmas::steps_more))]
     pub fn run(&mut self, platform: &Platform, from: u64, to: u64)
-        requires { from ≤ to }
+        requires ordered { from ≤ to }
+        requires bounded { to ≤ LAST_CYCLE }
         ensures { self.new ≡ after_steps (app_cycle platform.now from) from (to - from) self.old }
     {
-        for cycle in from..to {
-            // Nothing changes any more once every part has ended.
-            if self.has_ended() {
-                return;
-            }
-            self.step(platform, from, cycle);
-        }
+        self.run_parts(platform, from, to);
     }
 }

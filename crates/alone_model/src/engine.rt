@@ -13,7 +13,7 @@ use crate::part::RunningPart;
 use crate::trace::{AppTrace, PartTrace};
 use bundle_model::Bundle;
 use platform_model::Platform;
-use soc_base::{Items, NoMemory};
+use soc_base::{Items, LAST_CYCLE, NoMemory};
 use std::alloc::Global;
 use trace_log::{TraceRow, merge};
 
@@ -70,7 +70,7 @@ pub fn alone(
 ) -> Result<AppTrace, NoMemory>
     requires well_formed { IsWellFormed platform.now bundle.now }
     requires ordered { start ≤ end }
-    requires bounded { end * platform.now.slot_cycles ≤ 1000000000063 }
+    requires bounded { end * platform.now.slot_cycles ≤ LAST_CYCLE }
     ensures { IfOk result (IsTraceOf (alone_at platform.now bundle.now start end)) }
 {
     let slot_cycles = u64::from(platform.slot_cycles);

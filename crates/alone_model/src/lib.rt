@@ -11,8 +11,6 @@ mod application;
 mod engine;
 /// One part with registers and a memory of its own.
 mod part;
-/// When a part runs.
-mod schedule;
 /// Traces.
 mod trace;
 

@@ -1,20 +1,22 @@
 //! One part with registers and a memory of its own.
 
-ghost use Rattle.std.specs.Prelude.{◌≡◌, ◌*◌, ◌%◌, ◌≤◌, length, IfOk};
+ghost use Rattle.std.specs.Prelude.{◌≡◌, ◌+◌, ◌-◌, ◌*◌, ◌%◌, ◌^◌, ◌<◌, ◌≤◌, length, IfOk};
+ghost use Rattle.soc_base.specs.declared.limits.TheConstants.{MOST_MEMORY};
+ghost use Rattle.soc_base.specs.Time.{offset_at};
+ghost use Rattle.platform_model.specs.Platform.{frame_of};
 ghost use Rattle.trace_log.specs.Log.{has_ended};
 ghost use Rattle.tile_memory.specs.Bytes.{IsInside, region_bytes, filled_bytes};
 ghost use Rattle.alone_model.specs.App.{own_region};
 
-use crate::schedule::part_runs;
 use bundle_model::Part;
 use part_model::Place;
-use platform_model::Platform;
+use platform_model::{Costs, Platform};
 use rv_core::Regs;
-use soc_base::{NoMemory, Region};
+use soc_base::{LAST_CYCLE, NoMemory, Region, instance_of, runs};
 use std::alloc::Global;
 use std::marker::Model;
 use tile_memory::TileMemory;
-use tile_mmio::cycle_part;
+use tile_mmio::PartOnTile;
 use trace_log::PartLog;
 
 /// A part of a bundle, and what it is between two cycles.
@@ -38,6 +40,18 @@ impl<'b> Model for RunningPart<'b> {
     ghost invariant = { λ p. IsInside p.memory (own_region p.part.now) };
 }
 
+// The first of the partition's cycles in the instance of a cycle, and the cycle after the last.
+fn partition_cycles(platform: &Platform, cycle: u64) -> (u64, u64)
+    requires { cycle ≤ LAST_CYCLE }
+    ensures first { result.0 ≡ cycle - offset_at (frame_of platform.now) cycle + platform.now.kernel_cycles }
+    ensures past { result.1 ≡ result.0 + platform.now.partition_cycles }
+    ensures later { cycle < result.1 }
+{
+    let (_, offset) = instance_of(&platform.frame(), cycle);
+    let first = cycle - offset + u64::from(platform.kernel_cycles);
+    (first, first + u64::from(platform.partition_cycles))
+}
+
 // The region of a part in a memory of its own.
 fn region_of(part: &Part) -> Region
     ensures { result ≡ own_region part.now }
@@ -52,7 +66,7 @@ fn region_of(part: &Part) -> Region
 #[tactic(auto, using(crate::proofs::Opening::filled_inside, crate::proofs::Opening::filled_region))]
 fn filled_memory(alloc: Global, part: &Part) -> Result<TileMemory, NoMemory>
     requires rows { part.now.region.len % 16 ≡ 0 }
-    requires most { part.now.region.len ≤ 1048576 }
+    requires most { part.now.region.len ≤ MOST_MEMORY }
     requires holds { 4 * length part.now.image ≤ part.now.region.len }
     ensures inside { IfOk result (λ memory. IsInside memory (own_region part.now)) }
     ensures bytes { IfOk result (λ memory. region_bytes memory (own_region part.now) ≡ filled_bytes part.now.region.len part.now.image) }
@@ -64,7 +78,9 @@ fn filled_memory(alloc: Global, part: &Part) -> Result<TileMemory, NoMemory>
 
 impl<'b> RunningPart<'b> {
     ghost use Rattle.bundle_model.specs.WellFormed.{IsWellFormedPart};
+    ghost use Rattle.soc_base.specs.Steps.{after_steps};
     ghost use Rattle.alone_model.specs.App.{opening_part, part_step};
+    ghost use Rattle.alone_model.specs.inner.Stretch.{part_ran};
 
     /// Makes a part as it is when its application is granted.
     pub fn new(
@@ -86,27 +102,59 @@ impl<'b> RunningPart<'b> {
         })
     }
 
-    /// Does what the part does in a cycle of its application, which was granted from cycle `start` on.
-    pub fn step(&mut self, platform: &Platform, start: u64, cycle: u64)
-        ensures { self.new ≡ part_step platform.now start cycle self.old }
+    // Does cycles in each of which the part runs.
+    fn run_all(&mut self, costs: &Costs, from: u64, count: u64)
+        requires { from + count ≤ 2 ^ 64 }
+        ensures { self.new ≡ part_ran costs.now from count self.old }
     {
-        if !part_runs(platform, self.part, start, cycle) {
-            return;
-        }
         let place = Place {
             tile: self.part.tile,
             kinds: self.part.kinds,
         };
-        cycle_part(
-            &platform.costs,
-            place,
-            &mut self.regs,
-            &mut self.left,
-            &mut self.memory,
-            region_of(self.part),
-            &mut self.log,
-            cycle,
-        );
+        let region = region_of(self.part);
+        let mut part = PartOnTile {
+            regs: &mut self.regs,
+            left: &mut self.left,
+            memory: &mut self.memory,
+            region,
+            log: &mut self.log,
+        };
+        part.run(costs, place, from, count);
+    }
+
+    // Does the cycles of an instance from `from` on, up to its end or to `to` where that is sooner, and
+    // answers the cycle after them.
+    fn run_instance(&mut self, platform: &Platform, start: u64, from: u64, to: u64) -> u64
+        requires some { from < to }
+        requires bounded { to ≤ LAST_CYCLE }
+        ensures later { from < result }
+        ensures within { result ≤ to }
+        ensures cycles { self.new ≡ after_steps (part_step platform.now start) from (result - from) self.old }
+    {
+        let (begin, past) = partition_cycles(platform, from);
+        let first = from.max(begin);
+        let end = to.min(past);
+        if first < end && runs(&platform.frame(), self.part.slots, start, first) {
+            self.run_all(&platform.costs, first, end - first);
+        }
+        end
+    }
+
+    /// Does the part's cycles from `from` to `to - 1`, where its application was granted from cycle `start`
+    /// on.
+    pub fn run(&mut self, platform: &Platform, start: u64, from: u64, to: u64)
+        requires ordered { from ≤ to }
+        requires bounded { to ≤ LAST_CYCLE }
+        ensures { self.new ≡ after_steps (part_step platform.now start) from (to - from) self.old }
+    {
+        let mut at = from;
+        while at < to {
+            // A part that has ended changes no more.
+            if self.has_ended() {
+                return;
+            }
+            at = self.run_instance(platform, start, at, to);
+        }
     }
 
     /// Answers whether the part has ended.

@@ -1,5 +1,5 @@
 -- Grants that conflict with a resource, and grants that are apart.
-use Rattle.std.specs.Prelude.{◌≢◌, ℕ, ◌<◌, ◌≤◌, ◌⊎◌, Bool, true, ◌&&◌, nat_le, List, [], Option, Some, None, Result, Ok, Err, slice_get, All, AllPairs, IsTrue, IsSome, IsSomeAnd, IfSome}
+use Rattle.std.specs.Prelude.{◌≢◌, ℕ, ◌<◌, ◌≤◌, ◌⊎◌, Bool, true, ◌&&◌, nat_le, nat_lt, List, [], Option, Some, None, Result, Ok, Err, slice_get, All, AllPairs, IsTrue, IsSome, IsSomeAnd, IfSome}
 use Rattle.std.specs.List.{list_any}
 use Rattle.std.specs.Option.{option_and_then, option_map_or}
 use Rattle.bundle_model.specs.Resources.{resources_of, meets_of}
@@ -26,6 +26,11 @@ grant_resources world grant = option_map_or (resources_of world.platform) (bundl
 abbrev pub lasts_to : ℕ → Option ℕ → Bool
 lasts_to slot None = true
 lasts_to slot (Some end) = nat_le slot end
+
+-- whether a grant stands at the beginning of a slot: it began before, and is open or doesn't end before
+-- the slot
+abbrev pub stands_at : ℕ → Grant → Bool
+stands_at slot grant = nat_lt grant.start slot && lasts_to slot grant.end
 
 -- whether a grant conflicts with a resource that is asked for from slot `start` on: the grant is open
 -- or ends at `start` or later, and some resource of its bundle meets it

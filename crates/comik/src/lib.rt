@@ -15,6 +15,9 @@ mod kernel;
 mod owner;
 /// Where a cycle lies in the frame.
 mod place;
+/// The table cycle by cycle, and parts that come and leave.
+#[cfg(test)]
+mod tests;
 
 pub use context::Context;
 pub use kernel::Kernel;

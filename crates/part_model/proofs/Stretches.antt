@@ -14,8 +14,9 @@ use Rattle.rv_core.specs.Registers.{Registers}
 use Rattle.rv_core.specs.Decoding.{decode_of}
 use Rattle.cycle_table.specs.Cost.{cost_of, cost_of_instr}
 use Rattle.part_model.specs.declared.record.Place.{Place}
-use Rattle.part_model.specs.Running.{running_cycle, charged, effect_at, instr_of, decoded_or_illegal, cost_with}
-use Rattle.part_model.specs.Part.{PartState, part_bus, bus_of, settled, unless_ended, part_cycle, word_at_pc, due_in, completed}
+use Rattle.part_model.specs.Running.{running_cycle, charged, effect_at, instr_of, decoded_or_illegal}
+use Rattle.part_model.specs.Part.{PartState, part_bus, bus_of, settled, unless_ended, part_cycle}
+use Rattle.part_model.specs.inner.Steps.{cost_with, word_at_pc, due_in, completed}
 
 unless_still : (end : PartEnd) (p next : PartState) → has_ended end ≡ true → unless_ended end p next ≡ p
 unless_still Live p next ended = absurd (false≢true ended)

@@ -12,6 +12,7 @@ from_to_text first last = codes " from " ++ decimal first ++ codes " to " ++ dec
 abbrev pub trace_text : AppTrace → List ℕ
 trace_text t = flat_map row_text t.rows ++ flat_map part_text t.parts
 
+-- the last line
 abbrev pub end_line : List ℕ
 end_line = codes "end" ++ line_end
 

@@ -2,8 +2,7 @@
 use Rattle.std.specs.Prelude.{ℕ, ◌*◌, List, ◌++◌, codes, decimal, Option, Some, None}
 use Rattle.std.specs.Option.{option_map_or}
 use Rattle.soc_base.specs.declared.label.Label.{Label}
-use Rattle.bundle_model.specs.declared.rules.BRule.{BRule}
-use Rattle.bundle_model.specs.declared.rules.BRule.TheVariants.{B1, B2, B3, B4, B5, B6, B7, B8, B9, B10, B11, B12, B13, B14}
+use Rattle.bundle_model.specs.Words.{bundle_rule_text}
 use Rattle.bundle_model.specs.declared.resource.Resource.{Resource}
 use Rattle.bundle_model.specs.declared.resource.Resource.TheVariants.{Partition, Span, Port, Inject, LinkSlot, Deliver}
 use Rattle.script_file.specs.declared.command.Command.{Command}
@@ -24,22 +23,6 @@ abbrev pub command_text : Command → List ℕ
 command_text (Load name cycle) = codes "load " ++ name ++ codes " at " ++ decimal cycle
 command_text (Stop load cycle) = codes "stop " ++ decimal load ++ codes " at " ++ decimal cycle
 command_text (Until cycle) = codes "until " ++ decimal cycle
-
-abbrev pub bundle_rule_text : BRule → List ℕ
-bundle_rule_text B1 = codes "B1"
-bundle_rule_text B2 = codes "B2"
-bundle_rule_text B3 = codes "B3"
-bundle_rule_text B4 = codes "B4"
-bundle_rule_text B5 = codes "B5"
-bundle_rule_text B6 = codes "B6"
-bundle_rule_text B7 = codes "B7"
-bundle_rule_text B8 = codes "B8"
-bundle_rule_text B9 = codes "B9"
-bundle_rule_text B10 = codes "B10"
-bundle_rule_text B11 = codes "B11"
-bundle_rule_text B12 = codes "B12"
-bundle_rule_text B13 = codes "B13"
-bundle_rule_text B14 = codes "B14"
 
 -- two numbers, as in `0 48`
 abbrev pub pair_text : ℕ → ℕ → List ℕ
@@ -64,16 +47,20 @@ unfoldable pub reply_text : ℕ → Reply → List ℕ
 reply_text slot_cycles (Malformed rule) = codes "malformed " ++ bundle_rule_text rule
 reply_text slot_cycles (Past horizon) = codes "past " ++ decimal (horizon * slot_cycles)
 reply_text slot_cycles (Taken resource owner free_from) =
-    codes "taken " ++ resource_text resource ++ codes " by " ++ label_text owner ++ codes " free " ++ free_text slot_cycles free_from
-reply_text slot_cycles (Granted label start) = codes "granted " ++ label_text label ++ codes " at " ++ decimal (start * slot_cycles)
+    codes "taken " ++ resource_text resource ++ codes " by " ++ label_text owner ++ codes " free "
+        ++ free_text slot_cycles free_from
+reply_text slot_cycles (Granted label start) =
+    codes "granted " ++ label_text label ++ codes " at " ++ decimal (start * slot_cycles)
 reply_text slot_cycles NoLoad = codes "no load"
 reply_text slot_cycles (Already end) = codes "already " ++ decimal (end * slot_cycles)
-reply_text slot_cycles (Stopped label end) = codes "stopped " ++ label_text label ++ codes " at " ++ decimal (end * slot_cycles)
+reply_text slot_cycles (Stopped label end) =
+    codes "stopped " ++ label_text label ++ codes " at " ++ decimal (end * slot_cycles)
 reply_text slot_cycles (Horizon horizon) = codes "horizon " ++ decimal (horizon * slot_cycles)
 
 -- the command that an entry is of
 abbrev pub entry_command_text : Setup → Entry → List ℕ
-entry_command_text setup entry = option_map_or command_text (numbered (commands_of setup entry.session) entry.index) (codes "")
+entry_command_text setup entry =
+    option_map_or command_text (numbered (commands_of setup entry.session) entry.index) (codes "")
 
 -- an entry of the history: session, number, command and reply, as in
 -- `command 1 1 load a.toml at 1: granted 1.1 at 8`

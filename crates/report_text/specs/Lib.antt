@@ -2,5 +2,4 @@ pub mod Rows
 pub mod Alone
 pub mod Commands
 pub mod Report
-pub mod Logs
-pub mod Printing
+pub mod inner

@@ -1,9 +1,8 @@
 -- The report of a run.
-use Rattle.std.specs.Prelude.{◌≡◌, ℕ, ◌+◌, ◌*◌, max, List, [], ◌∷◌, ◌++◌, codes, decimal, map, fold, sum_by, slice_get, Some, Result, Ok, Err}
+use Rattle.std.specs.Prelude.{◌≡◌, ℕ, ◌*◌, List, [], ◌∷◌, ◌++◌, codes, decimal, slice_get, Some}
 use Rattle.std.specs.List.{concat, flat_map}
 use Rattle.std.specs.Option.{option_map_or}
 use Rattle.bundle_model.specs.declared.bundle.Bundle.{Bundle}
-use Rattle.bundle_model.specs.declared.rules.BRule.{BRule}
 use Rattle.bundle_model.specs.declared.world.World.{World}
 use Rattle.bundle_model.specs.declared.world.Grant.{Grant}
 use Rattle.bundle_model.specs.Grants.{bundle_at}
@@ -57,7 +56,8 @@ budget_line setup = codes "budget " ++ decimal (setup.budget * setup.world.platf
 
 -- the report with these texts of applications
 unfoldable pub report_text : Setup → List Entry → List (List ℕ) → List ℕ
-report_text setup history apps = (form_line ++ budget_line setup) ++ flat_map (entry_text setup) history ++ concat apps ++ end_line
+report_text setup history apps =
+    (form_line ++ budget_line setup) ++ flat_map (entry_text setup) history ++ concat apps ++ end_line
 
 -- The report of a history: each entry with its command and its reply, and then each granted application
 -- with the trace that it has alone.
@@ -65,12 +65,3 @@ pub record IsReport (setup : Setup) (history : List Entry) (text : List ℕ) : T
   pub apps : List (List ℕ)
   pub are_apps : AreAppTexts setup (grants_of setup history) apps
   pub is_text : text ≡ report_text setup history apps
-
--- the most rows that the parts of a bundle keep
-abbrev pub bundle_rows : Result Bundle BRule → ℕ
-bundle_rows (Ok bundle) = sum_by (λ part. part.trace) bundle.parts
-bundle_rows (Err rule) = 0
-
--- the most rows that an application of the world can have
-abbrev pub most_rows : World → ℕ
-most_rows world = fold (λ most rows. max most rows) 0 (map (λ named. bundle_rows named.judged) world.catalog)

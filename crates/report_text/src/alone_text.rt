@@ -2,20 +2,20 @@
 
 ghost use Rattle.std.specs.Prelude.{◌≡◌, ◌*◌, ◌≤◌};
 ghost use Rattle.std.specs.List.{flat_map};
-ghost use Rattle.soc_io.specs.Writing.{Writes};
 ghost use Rattle.report_text.specs.Rows.{row_text, part_text};
 ghost use Rattle.report_text.specs.Alone.{alone_text};
-ghost use Rattle.report_text.specs.Printing.{PrintsMore};
+ghost use Rattle.soc_io.specs.Printing.{PrintsMore, WritesText};
 
 use crate::lines::{part_line, row_line, span_line};
 use alone_model::{AppTrace, PartTrace};
 use platform_model::Platform;
+use soc_base::LAST_CYCLE;
 use soc_io::{Printer, Sink, SinkFault};
 use trace_log::TraceRow;
 
 /// Prints a line for each row.
 pub(crate) fn put_rows<S: Sink>(printer: &mut Printer<'_, S>, rows: &[TraceRow])
-    ensures printed { PrintsMore (flat_map row_text rows.now) (S.written printer.old.sink.now) (S.faults printer.old.sink.now) printer.old.failed (S.written printer.new.sink.now) (S.faults printer.new.sink.now) printer.new.failed }
+    ensures printed { PrintsMore S.written S.faults printer.old printer.new (flat_map row_text rows.now) }
     ensures same { printer.new.sink.ghost_name ≡ printer.old.sink.ghost_name }
 {
     for row in rows {
@@ -25,7 +25,7 @@ pub(crate) fn put_rows<S: Sink>(printer: &mut Printer<'_, S>, rows: &[TraceRow])
 
 // Prints a line for each part.
 fn put_parts<S: Sink>(printer: &mut Printer<'_, S>, parts: &[PartTrace])
-    ensures printed { PrintsMore (flat_map part_text parts.now) (S.written printer.old.sink.now) (S.faults printer.old.sink.now) printer.old.failed (S.written printer.new.sink.now) (S.faults printer.new.sink.now) printer.new.failed }
+    ensures printed { PrintsMore S.written S.faults printer.old printer.new (flat_map part_text parts.now) }
     ensures same { printer.new.sink.ghost_name ≡ printer.old.sink.ghost_name }
 {
     for part in parts {
@@ -47,9 +47,9 @@ pub fn write_trace<S: Sink>(
     sink: &mut S,
 ) -> Result<(), SinkFault>
     requires ordered { start ≤ end }
-    requires bounded { end * platform.now.slot_cycles ≤ 1000000000063 }
+    requires bounded { end * platform.now.slot_cycles ≤ LAST_CYCLE }
     ensures counted { S.faults sink.old ≤ S.faults sink.new }
-    ensures written { Writes (alone_text platform.now.slot_cycles name.now trace.now start end) (S.written sink.old) (S.faults sink.old) (S.written sink.new) (S.faults sink.new) result }
+    ensures written { WritesText S.written S.faults sink.old sink.new (alone_text platform.now.slot_cycles name.now trace.now start end) result }
 {
     let span = span_line(platform.slot_cycles, start, end);
     let mut printer = Printer::new(sink);

@@ -1,7 +1,7 @@
 //! The applications of a run.
 
 ghost use Rattle.std.specs.Prelude.{◌≡◌, ◌+◌, ◌≤◌, ◌++◌, List, ℕ, length, codes, Some, All, IfSome, vec_len, vec_capacity};
-ghost use Rattle.std.specs.List.{flat_map, concat};
+ghost use Rattle.std.specs.List.{flat_map};
 ghost use Rattle.std.specs.List.Sorted.{IsSorted, IsPermutation};
 ghost use Rattle.std.specs.Option.{option_copied, option_to_list};
 ghost use Rattle.bundle_model.specs.declared.bundle.Bundle.{Bundle};
@@ -11,21 +11,22 @@ ghost use Rattle.vep_manager.specs.History.{grant_by, grants_of};
 ghost use Rattle.event_core.specs.Stands.{stop_slot};
 ghost use Rattle.report_text.specs.Rows.{row_text};
 ghost use Rattle.report_text.specs.Commands.{label_text};
-ghost use Rattle.report_text.specs.Report.{name_at, most_rows, IsAppText, AreAppTexts};
-ghost use Rattle.report_text.specs.Logs.{log_on, rows_on, line_on, app_line, HoldsAlone};
-ghost use Rattle.report_text.specs.Printing.{PrintsMore};
+ghost use Rattle.report_text.specs.Report.{name_at, IsAppText};
+ghost use Rattle.report_text.specs.inner.Room.{most_rows};
+ghost use Rattle.report_text.specs.inner.Logs.{log_on, rows_on, line_on, app_line, parts_text, HoldsAlone, ArePartsOf};
+ghost use Rattle.report_text.specs.inner.Printing.{PrintsSome, PrintsApps};
+ghost use Rattle.soc_io.specs.Printing.{PrintsMore};
 
 use crate::alone_text::put_rows;
 use crate::commands::push_label;
-use crate::grants::reply_grant;
 use crate::lines::{part_line, span_line};
 use alone_model::PartTrace;
-use bundle_model::{Bundle, Grant, Part, World};
+use bundle_model::{Grant, Part, World};
 use soc_base::{Label, Line};
 use soc_io::{Printer, Sink};
 use tile_core::Station;
 use trace_log::{PartLog, TraceRow, merge};
-use vep_manager::{Entry, Reply, Setup};
+use vep_manager::{Entry, Reply, Setup, reply_grant};
 
 // The log of a load on the tile of a part, if there is one.
 fn part_log<'s>(stations: &'s [Station], label: Label, part: &Part) -> Option<&'s PartLog>
@@ -63,7 +64,7 @@ fn merge_parts(rows: &mut Vec<TraceRow>, stations: &[Station], label: Label, par
 
 // Prints the line of a part by its log.
 fn put_part<S: Sink>(printer: &mut Printer<'_, S>, stations: &[Station], label: Label, part: &Part)
-    ensures printed { PrintsMore (line_on stations.now label part.now) (S.written printer.old.sink.now) (S.faults printer.old.sink.now) printer.old.failed (S.written printer.new.sink.now) (S.faults printer.new.sink.now) printer.new.failed }
+    ensures printed { PrintsMore S.written S.faults printer.old printer.new (line_on stations.now label part.now) }
     ensures same { printer.new.sink.ghost_name ≡ printer.old.sink.ghost_name }
 {
     if let Some(log) = part_log(stations, label, part) {
@@ -83,7 +84,7 @@ fn put_part_lines<S: Sink>(
     label: Label,
     parts: &[Part],
 )
-    ensures printed { PrintsMore (flat_map (line_on stations.now label) parts.now) (S.written printer.old.sink.now) (S.faults printer.old.sink.now) printer.old.failed (S.written printer.new.sink.now) (S.faults printer.new.sink.now) printer.new.failed }
+    ensures printed { PrintsMore S.written S.faults printer.old printer.new (flat_map (line_on stations.now label) parts.now) }
     ensures same { printer.new.sink.ghost_name ≡ printer.old.sink.ghost_name }
 {
     for part in parts {
@@ -112,16 +113,6 @@ fn name_of(world: &World, place: u16) -> &str
     }
 }
 
-// The bundle at a place of the catalog, if there is one and it breaks no rule.
-fn bundle_of(world: &World, place: u16) -> Option<&Bundle>
-    ensures { option_copied result ≡ bundle_at world.entry.now place }
-{
-    match &world.catalog.get(usize::from(place))?.judged {
-        Ok(bundle) => Some(bundle),
-        Err(_) => None,
-    }
-}
-
 // How an application's first line begins.
 fn app_front(label: Label) -> Line
     ensures { result.bytes ≡ codes "app " ++ label_text label ++ codes " " }
@@ -136,7 +127,7 @@ fn app_front(label: Label) -> Line
 /// Prints an application's first line.
 #[tactic(auto, unfolding(crate::specs::Logs::app_line))]
 pub fn put_app_line<S: Sink>(printer: &mut Printer<'_, S>, setup: &Setup, grant: &Grant)
-    ensures printed { PrintsMore (app_line setup.now grant.now) (S.written printer.old.sink.now) (S.faults printer.old.sink.now) printer.old.failed (S.written printer.new.sink.now) (S.faults printer.new.sink.now) printer.new.failed }
+    ensures printed { PrintsMore S.written S.faults printer.old printer.new (app_line setup.now grant.now) }
     ensures same { printer.new.sink.ghost_name ≡ printer.old.sink.ghost_name }
 {
     let front = app_front(grant.label);
@@ -156,7 +147,7 @@ fn put_parts_app<S: Sink>(
     rows: &mut Vec<TraceRow>,
 )
     requires { length (flat_map (rows_on stations.now grant.now.label) parts.now) ≤ vec_capacity rows.old }
-    ensures printed { PrintsMore (app_line setup.now grant.now ++ flat_map row_text rows.new.items ++ flat_map (line_on stations.now grant.now.label) parts.now) (S.written printer.old.sink.now) (S.faults printer.old.sink.now) printer.old.failed (S.written printer.new.sink.now) (S.faults printer.new.sink.now) printer.new.failed }
+    ensures printed { PrintsMore S.written S.faults printer.old printer.new (parts_text setup.now stations.now grant.now parts.now rows.new.items) }
     ensures rows { IsPermutation (flat_map (rows_on stations.now grant.now.label) parts.now) rows.new.items }
     ensures order { IsSorted row_cmp rows.new.items }
     ensures room { vec_capacity rows.new ≡ vec_capacity rows.old }
@@ -170,9 +161,9 @@ fn put_parts_app<S: Sink>(
 
 // The parts of a grant's bundle, in the order of the file.
 fn parts_of<'s>(setup: &'s Setup, grant: &Grant) -> &'s [Part]
-    ensures { (bundle : Bundle) → bundle_at setup.entry.now.world grant.now.bundle ≡ Some bundle → result.now ≡ bundle.parts }
+    ensures { ArePartsOf setup.entry.now.world grant.now result.now }
 {
-    match bundle_of(&setup.world, grant.bundle) {
+    match setup.world.bundle(grant.bundle) {
         Some(bundle) => bundle.parts.as_slice(),
         None => &[],
     }
@@ -188,7 +179,7 @@ fn put_app<S: Sink>(
 )
     requires alone { HoldsAlone setup.now stations.now grant.now }
     requires room { most_rows setup.now.world ≤ vec_capacity rows.old }
-    ensures printed { (text : List ℕ) × IsAppText setup.now grant.now text × PrintsMore text (S.written printer.old.sink.now) (S.faults printer.old.sink.now) printer.old.failed (S.written printer.new.sink.now) (S.faults printer.new.sink.now) printer.new.failed }
+    ensures printed { PrintsSome S.written S.faults printer.old printer.new (IsAppText setup.now grant.now) }
     ensures room { vec_capacity rows.new ≡ vec_capacity rows.old }
     ensures same { printer.new.sink.ghost_name ≡ printer.old.sink.ghost_name }
 {
@@ -213,7 +204,7 @@ fn put_reply_app<S: Sink>(
 )
     requires alone { IfSome (grant_by setup.now history.now reply) (HoldsAlone setup.now stations.now) }
     requires room { most_rows setup.now.world ≤ vec_capacity rows.old }
-    ensures printed { (texts : List (List ℕ)) × AreAppTexts setup.now (option_to_list (grant_by setup.now history.now reply)) texts × PrintsMore (concat texts) (S.written printer.old.sink.now) (S.faults printer.old.sink.now) printer.old.failed (S.written printer.new.sink.now) (S.faults printer.new.sink.now) printer.new.failed }
+    ensures printed { PrintsApps S.written S.faults printer.old printer.new setup.now (option_to_list (grant_by setup.now history.now reply)) }
     ensures room { vec_capacity rows.new ≡ vec_capacity rows.old }
     ensures same { printer.new.sink.ghost_name ≡ printer.old.sink.ghost_name }
 {
@@ -233,7 +224,7 @@ pub fn put_apps<S: Sink>(
 )
     requires alone { All (HoldsAlone setup.now stations.now) (grants_of setup.now history.now) }
     requires room { most_rows setup.now.world ≤ vec_capacity rows.old }
-    ensures printed { (texts : List (List ℕ)) × AreAppTexts setup.now (grants_of setup.now history.now) texts × PrintsMore (concat texts) (S.written printer.old.sink.now) (S.faults printer.old.sink.now) printer.old.failed (S.written printer.new.sink.now) (S.faults printer.new.sink.now) printer.new.failed }
+    ensures printed { PrintsApps S.written S.faults printer.old printer.new setup.now (grants_of setup.now history.now) }
     ensures room { vec_capacity rows.new ≡ vec_capacity rows.old }
     ensures same { printer.new.sink.ghost_name ≡ printer.old.sink.ghost_name }
 {

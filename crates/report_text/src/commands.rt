@@ -2,10 +2,10 @@
 
 ghost use Rattle.std.specs.Prelude.{◌≡◌, ◌+◌, ◌*◌, ◌≤◌, ◌++◌, length, decimal};
 ghost use Rattle.arrayvec.specs.ArrayString.{array_string_len};
-ghost use Rattle.report_text.specs.Commands.{label_text, pair_text, bundle_rule_text, resource_text, free_text, reply_text};
+ghost use Rattle.report_text.specs.Commands.{label_text, pair_text, resource_text, free_text, reply_text};
 
 use crate::lines::push_cycle;
-use bundle_model::{BRule, Resource};
+use bundle_model::Resource;
 use soc_base::{Label, Line, push_number};
 use vep_manager::Reply;
 
@@ -29,28 +29,6 @@ pub fn push_pair(line: &mut Line, first: u64, second: u64)
     push_number(line, first);
     line.push_str(" ");
     push_number(line, second);
-}
-
-fn rule_word(rule: BRule) -> &'static str
-    ensures text { result.now ≡ bundle_rule_text rule }
-    ensures short { length result.now ≤ 3 }
-{
-    match rule {
-        BRule::B1 => "B1",
-        BRule::B2 => "B2",
-        BRule::B3 => "B3",
-        BRule::B4 => "B4",
-        BRule::B5 => "B5",
-        BRule::B6 => "B6",
-        BRule::B7 => "B7",
-        BRule::B8 => "B8",
-        BRule::B9 => "B9",
-        BRule::B10 => "B10",
-        BRule::B11 => "B11",
-        BRule::B12 => "B12",
-        BRule::B13 => "B13",
-        BRule::B14 => "B14",
-    }
 }
 
 // Appends a resource, at most 80 bytes.
@@ -122,7 +100,7 @@ pub fn push_reply(line: &mut Line, slot_cycles: u8, reply: Reply)
     match reply {
         Reply::Malformed(rule) => {
             line.push_str("malformed ");
-            line.push_str(rule_word(rule));
+            line.push_str(rule.word());
         }
         Reply::Past(horizon) => push_at(line, "past ", slot_cycles, horizon),
         Reply::Taken {

@@ -7,7 +7,7 @@ ghost use Rattle.arrayvec.specs.ArrayString.{array_string_len};
 ghost use Rattle.vep_manager.specs.History.{numbered, commands_of};
 ghost use Rattle.report_text.specs.Rows.{line_end};
 ghost use Rattle.report_text.specs.Commands.{command_text, pair_text, reply_text, entry_text};
-ghost use Rattle.report_text.specs.Printing.{PrintsMore};
+ghost use Rattle.soc_io.specs.Printing.{PrintsMore};
 
 use crate::commands::{push_pair, push_reply};
 use script_file::Command;
@@ -79,7 +79,7 @@ pub fn put_command<S: Sink>(
 )
     requires front { array_string_len front ≤ 60 }
     requires back { array_string_len back.now ≤ 210 }
-    ensures printed { PrintsMore (front.bytes ++ command_text command.now ++ back.now.bytes) (S.written printer.old.sink.now) (S.faults printer.old.sink.now) printer.old.failed (S.written printer.new.sink.now) (S.faults printer.new.sink.now) printer.new.failed }
+    ensures printed { PrintsMore S.written S.faults printer.old printer.new (front.bytes ++ command_text command.now ++ back.now.bytes) }
     ensures same { printer.new.sink.ghost_name ≡ printer.old.sink.ghost_name }
 {
     match command {
@@ -107,7 +107,7 @@ pub fn put_command<S: Sink>(
 /// Prints an entry of a history of the setup.
 #[tactic(auto, unfolding(crate::specs::Commands::entry_text))]
 pub fn put_entry<S: Sink>(printer: &mut Printer<'_, S>, setup: &Setup, entry: &Entry)
-    ensures printed { PrintsMore (entry_text setup.now entry.now) (S.written printer.old.sink.now) (S.faults printer.old.sink.now) printer.old.failed (S.written printer.new.sink.now) (S.faults printer.new.sink.now) printer.new.failed }
+    ensures printed { PrintsMore S.written S.faults printer.old printer.new (entry_text setup.now entry.now) }
     ensures same { printer.new.sink.ghost_name ≡ printer.old.sink.ghost_name }
 {
     let front = entry_front(entry);
@@ -120,7 +120,7 @@ pub fn put_entry<S: Sink>(printer: &mut Printer<'_, S>, setup: &Setup, entry: &E
 
 /// Prints a history.
 pub fn put_history<S: Sink>(printer: &mut Printer<'_, S>, setup: &Setup, history: &[Entry])
-    ensures printed { PrintsMore (flat_map (entry_text setup.now) history.now) (S.written printer.old.sink.now) (S.faults printer.old.sink.now) printer.old.failed (S.written printer.new.sink.now) (S.faults printer.new.sink.now) printer.new.failed }
+    ensures printed { PrintsMore S.written S.faults printer.old printer.new (flat_map (entry_text setup.now) history.now) }
     ensures same { printer.new.sink.ghost_name ≡ printer.old.sink.ghost_name }
 {
     for entry in history {

@@ -2,8 +2,7 @@
 //!
 //! `specs/Rows` says how a row and a part's end are written, `specs/Alone` the text of one application
 //! alone, `specs/Commands` how a command and its reply are written, and `specs/Report` the report of a
-//! run. `specs/Logs` says what the tiles hold of an application's parts, and `specs/Printing` what a
-//! function prints behind a text.
+//! run. `specs/inner` has what only clauses of private functions cite.
 #![tactic(auto)]
 
 /// The text of one application alone.
@@ -14,13 +13,10 @@ mod applications;
 mod commands;
 /// The entries of a history.
 mod entries;
-/// The grants that a history gives.
-mod grants;
 /// Lines of a trace.
 mod lines;
 /// The report of a run.
 mod reporter;
-
 /// How much room the rows of an application need.
 mod room;
 

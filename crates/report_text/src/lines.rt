@@ -1,27 +1,16 @@
 //! Lines of a trace, each at most 512 bytes.
 
 ghost use Rattle.std.specs.Prelude.{◌≡◌, ◌+◌, ◌*◌, ◌≤◌, ◌++◌, length, decimal};
-ghost use Rattle.report_text.specs.Rows.{kind_text, cause_text, end_text, row_text, part_text};
+ghost use Rattle.report_text.specs.Rows.{cause_text, end_text, row_text, part_text};
 ghost use Rattle.report_text.specs.Alone.{from_to_text};
 ghost use Rattle.arrayvec.specs.ArrayString.{array_string_len};
 
 use alone_model::PartTrace;
 use itoa::Buffer;
 use soc_base::{Cause, Line, push_hex, push_number};
-use trace_log::{Kind, PartEnd, TraceRow};
+use trace_log::{PartEnd, TraceRow};
 
-fn kind_word(kind: Kind) -> &'static str
-    ensures text { result.now ≡ kind_text kind }
-    ensures short { length result.now ≤ 4 }
-{
-    match kind {
-        Kind::Word => "word",
-        Kind::Send => "send",
-        Kind::Recv => "recv",
-        Kind::Step => "step",
-    }
-}
-
+// The word of a cause.
 fn cause_word(cause: Cause) -> &'static str
     ensures text { result.now ≡ cause_text cause }
     ensures short { length result.now ≤ 7 }
@@ -71,7 +60,7 @@ pub fn row_line(row: &TraceRow) -> Line
     line.push_str(" ");
     push_number(&mut line, u64::from(row.tile));
     line.push_str(" ");
-    line.push_str(kind_word(row.kind));
+    line.push_str(row.kind.word());
     line.push_str(" ");
     push_hex(&mut line, row.value);
     line.push_str("\n");

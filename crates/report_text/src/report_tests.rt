@@ -7,12 +7,14 @@ use crate::Reporter;
 use crate::applications::put_app_line;
 use crate::commands::push_reply;
 use crate::entries::{entry_back, put_command, put_entry};
-use crate::tests::platform;
+use crate::tests::long_name;
 use bundle_model::{BRule, Grant, Named, Resource, World};
+use platform_model::Platform;
 use script_file::{Command, Script};
 use soc_base::{Items, Label, Line, Text};
 use soc_io::{MemSink, Printer};
 use std::alloc::Global;
+use std::process::Abort;
 use std::test::Fail;
 use vep_manager::{Entry, Reply, Setup};
 
@@ -30,28 +32,52 @@ fn taken(resource: Resource, free_from: Option<u64>) -> Reply {
     }
 }
 
+// Checks how replies are written.
+fn check_replies<A: Abort>(rt: &A, cases: &[(Reply, &str)]) {
+    for (reply, text) in cases {
+        let mut line = Line::new();
+        push_reply(&mut line, SLOT_CYCLES, *reply);
+        assert_eq!(rt; line.as_str(), *text);
+    }
+}
+
 #[test]
 fn writes_each_reply(rt: HostRuntime) {
+    let granted = Reply::Granted {
+        label: label(16, 256),
+        start: 1,
+    };
+    let stopped = Reply::Stopped {
+        label: label(2, 1),
+        end: 28,
+    };
     let cases = [
         (Reply::Malformed(BRule::B1), "malformed B1"),
         (Reply::Malformed(BRule::B7), "malformed B7"),
         (Reply::Malformed(BRule::B14), "malformed B14"),
         (Reply::Past(128), "past 1024"),
+        (granted, "granted 16.256 at 8"),
+        (Reply::NoLoad, "no load"),
+        (Reply::Already(32), "already 256"),
+        (stopped, "stopped 2.1 at 224"),
+        (Reply::Horizon(128), "horizon 1024"),
+    ];
+    check_replies(&rt, &cases);
+}
+
+#[test]
+fn writes_each_resource_that_is_taken(rt: HostRuntime) {
+    let span = Resource::Span {
+        tile: 0,
+        base: 48,
+        len: 64,
+    };
+    let cases = [
         (
             taken(Resource::Partition { tile: 3, slot: 15 }, None),
             "taken partition 3 15 by 1.1 free none",
         ),
-        (
-            taken(
-                Resource::Span {
-                    tile: 0,
-                    base: 48,
-                    len: 64,
-                },
-                Some(0),
-            ),
-            "taken span 0 48 64 by 1.1 free 0",
-        ),
+        (taken(span, Some(0)), "taken span 0 48 64 by 1.1 free 0"),
         (
             taken(Resource::Port { tile: 31, port: 2 }, Some(1)),
             "taken port 31 2 by 1.1 free 8",
@@ -68,38 +94,8 @@ fn writes_each_reply(rt: HostRuntime) {
             taken(Resource::Deliver { tile: 2, slot: 0 }, Some(u64::MAX)),
             "taken deliver 2 0 by 1.1 free 147573952589676412920",
         ),
-        (
-            Reply::Granted {
-                label: label(16, 256),
-                start: 1,
-            },
-            "granted 16.256 at 8",
-        ),
-        (Reply::NoLoad, "no load"),
-        (Reply::Already(32), "already 256"),
-        (
-            Reply::Stopped {
-                label: label(2, 1),
-                end: 28,
-            },
-            "stopped 2.1 at 224",
-        ),
-        (Reply::Horizon(128), "horizon 1024"),
     ];
-    for (reply, text) in cases {
-        let mut line = Line::new();
-        push_reply(&mut line, SLOT_CYCLES, reply);
-        assert_eq!(rt; line.as_str(), text);
-    }
-}
-
-// A name of 600 bytes.
-fn long_name(alloc: Global) -> Result<String, Fail> {
-    let mut name = String::new(alloc);
-    for _ in 0..60 {
-        name.push_str("0123456789")?;
-    }
-    Ok(name)
+    check_replies(&rt, &cases);
 }
 
 #[test]
@@ -166,7 +162,7 @@ fn setup_with(alloc: Global, name: Text) -> Result<Setup, Fail>
     };
     Ok(Setup {
         world: World {
-            platform: platform(alloc)?,
+            platform: Platform::plain(alloc)?,
             catalog: Items::from_vec(vec![in alloc; named]?),
         },
         budget: 125,

@@ -1,15 +1,16 @@
 //! The report of a run.
 
 ghost use Rattle.std.specs.Prelude.{◌≡◌, ◌≤◌, ◌++◌, ℕ, List, All, IfOk, false, vec_capacity};
-ghost use Rattle.soc_io.specs.Writing.{Writes};
 ghost use Rattle.vep_manager.specs.Setup.{IsSound};
 ghost use Rattle.vep_manager.specs.History.{grants_of};
 ghost use Rattle.vep_manager.specs.Legal.{IsLegal};
 ghost use Rattle.serial_run.specs.Run.{EndsInStep};
 ghost use Rattle.report_text.specs.Alone.{end_line};
-ghost use Rattle.report_text.specs.Report.{IsReport, form_line, budget_line, most_rows};
-ghost use Rattle.report_text.specs.Logs.{HoldsAlone};
-ghost use Rattle.report_text.specs.Printing.{PrintsMore};
+ghost use Rattle.report_text.specs.Report.{IsReport, form_line, budget_line};
+ghost use Rattle.report_text.specs.inner.Room.{most_rows};
+ghost use Rattle.report_text.specs.inner.Printing.{PrintsSome};
+ghost use Rattle.report_text.specs.inner.Logs.{HoldsAlone};
+ghost use Rattle.soc_io.specs.Printing.{PrintsMore, WritesText};
 
 use crate::applications::put_apps;
 use crate::entries::put_history;
@@ -51,7 +52,7 @@ fn budget_line(setup: &Setup) -> Line
 
 // Prints the first two lines of a report.
 fn put_head<S: Sink>(printer: &mut Printer<'_, S>, setup: &Setup)
-    ensures printed { PrintsMore (form_line ++ budget_line setup.now) (S.written printer.old.sink.now) (S.faults printer.old.sink.now) printer.old.failed (S.written printer.new.sink.now) (S.faults printer.new.sink.now) printer.new.failed }
+    ensures printed { PrintsMore S.written S.faults printer.old printer.new (form_line ++ budget_line setup.now) }
     ensures same { printer.new.sink.ghost_name ≡ printer.old.sink.ghost_name }
 {
     printer.put(b"compsoc report 1\n");
@@ -60,7 +61,7 @@ fn put_head<S: Sink>(printer: &mut Printer<'_, S>, setup: &Setup)
 
 // Prints the last line of a report.
 fn put_end<S: Sink>(printer: &mut Printer<'_, S>)
-    ensures printed { PrintsMore end_line (S.written printer.old.sink.now) (S.faults printer.old.sink.now) printer.old.failed (S.written printer.new.sink.now) (S.faults printer.new.sink.now) printer.new.failed }
+    ensures printed { PrintsMore S.written S.faults printer.old printer.new end_line }
     ensures same { printer.new.sink.ghost_name ≡ printer.old.sink.ghost_name }
 {
     printer.put(b"end\n");
@@ -75,7 +76,7 @@ fn put_all<S: Sink>(
 )
     requires alone { All (HoldsAlone setup.now end.now.stations) (grants_of setup.now end.now.history) }
     requires room { most_rows setup.now.world ≤ vec_capacity rows.old }
-    ensures printed { (text : List ℕ) × IsReport setup.now end.now.history text × PrintsMore text (S.written printer.old.sink.now) (S.faults printer.old.sink.now) printer.old.failed (S.written printer.new.sink.now) (S.faults printer.new.sink.now) printer.new.failed }
+    ensures printed { PrintsSome S.written S.faults printer.old printer.new (IsReport setup.now end.now.history) }
     ensures room { vec_capacity rows.new ≡ vec_capacity rows.old }
     ensures same { printer.new.sink.ghost_name ≡ printer.old.sink.ghost_name }
 {
@@ -113,7 +114,7 @@ impl Reporter {
         requires in_step { EndsInStep setup.now end.now }
         requires no_state { state ≡ false }
         ensures counted { S.faults sink.old ≤ S.faults sink.new }
-        ensures written { (text : List ℕ) × IsReport setup.now end.now.history text × Writes text (S.written sink.old) (S.faults sink.old) (S.written sink.new) (S.faults sink.new) result }
+        ensures written { (text : List ℕ) × IsReport setup.now end.now.history text × WritesText S.written S.faults sink.old sink.new text result }
         ensures room { self.new ≡ self.old }
     {
         let _ = state;

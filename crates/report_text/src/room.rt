@@ -3,7 +3,7 @@
 ghost use Rattle.std.specs.Prelude.{◌≡◌, ◌<◌, ◌^◌, sum_by, IfOk};
 ghost use Rattle.bundle_model.specs.WellFormed.{IsWellFormed};
 ghost use Rattle.bundle_model.specs.World.{IsSoundCatalog};
-ghost use Rattle.report_text.specs.Report.{bundle_rows, most_rows};
+ghost use Rattle.report_text.specs.inner.Room.{bundle_rows, most_rows};
 
 use bundle_model::{BRule, Bundle, Part, World};
 use platform_model::Platform;

@@ -2,42 +2,12 @@
 
 use crate::write_trace;
 use alone_model::{AppTrace, PartTrace};
-use platform_model::{Platform, RawCosts, RawPlatform};
+use platform_model::Platform;
 use soc_base::{Cause, Items};
 use soc_io::MemSink;
 use std::alloc::Global;
 use std::test::Fail;
 use trace_log::{Kind, PartEnd, TraceRow};
-
-// A platform whose slots have 8 cycles.
-pub fn platform(alloc: Global) -> Result<Platform, Fail> {
-    let costs = RawCosts {
-        integer: 1,
-        mul: 3,
-        div: 34,
-        load: 2,
-        store: 2,
-        taken: 3,
-        untaken: 1,
-        jump: 3,
-        device: 4,
-        system: 1,
-    };
-    let raw = RawPlatform {
-        tiles: 1,
-        mem_bytes: 4096,
-        slot_cycles: 8,
-        table_slots: 8,
-        kernel_cycles: 72,
-        partition_cycles: 56,
-        partition_slots: 2,
-        ports: 2,
-        queue: 8,
-        links: Items::new(alloc),
-        costs,
-    };
-    Ok(Platform::check(alloc, &raw)?)
-}
 
 fn row(cycle: u64, tile: u8, kind: Kind, value: u32) -> TraceRow {
     TraceRow {
@@ -62,7 +32,7 @@ fn trace_of(rows: Vec<TraceRow>, parts: Vec<PartTrace>) -> AppTrace {
 #[test]
 fn writes_each_line_at_once(rt: HostRuntime) -> Result<(), Fail> {
     let alloc = rt.alloc();
-    let platform = platform(alloc)?;
+    let platform = Platform::plain(alloc)?;
     let halt = PartEnd::Halt {
         code: 0,
         cycle: 334,
@@ -94,23 +64,22 @@ fn writes_each_line_at_once(rt: HostRuntime) -> Result<(), Fail> {
     Ok(())
 }
 
-#[test]
-fn writes_every_form(rt: HostRuntime) -> Result<(), Fail> {
-    let alloc = rt.alloc();
-    let platform = platform(alloc)?;
-    let rows = vec![in alloc;
-        row(5, 0, Kind::Send, 0x89ab_cdef),
-        row(5, 31, Kind::Recv, 0xffff_ffff),
-        row(1_000_000_000_062, 9, Kind::Step, 0x10),
-    ]?;
+// A name of 600 bytes.
+pub fn long_name(alloc: Global) -> Result<String, Fail> {
+    let mut name = String::new(alloc);
+    for _ in 0..60 {
+        name.push_str("0123456789")?;
+    }
+    Ok(name)
+}
+
+// Parts that end in each way.
+fn ended_parts(alloc: Global) -> Result<Vec<PartTrace>, Fail> {
     let halt = PartEnd::Halt {
         code: 0xdead_beef,
         cycle: 1_000_000_000_062,
     };
-    let mut parts = vec![in alloc;
-        part(31, PartEnd::Live, 18_446_744_073_709_551_615),
-        part(0, halt, 1),
-    ]?;
+    let mut parts = vec![in alloc; part(31, PartEnd::Live, u64::MAX), part(0, halt, 1)]?;
     for cause in [
         Cause::Illegal,
         Cause::Fetch,
@@ -121,11 +90,20 @@ fn writes_every_form(rt: HostRuntime) -> Result<(), Fail> {
     ] {
         parts.push(part(7, PartEnd::Fault { cause, cycle: 10 }, 0))?;
     }
-    let trace = trace_of(rows, parts);
-    let mut name = String::new(alloc);
-    for _ in 0..60 {
-        name.push_str("0123456789")?;
-    }
+    Ok(parts)
+}
+
+#[test]
+fn writes_every_form(rt: HostRuntime) -> Result<(), Fail> {
+    let alloc = rt.alloc();
+    let platform = Platform::plain(alloc)?;
+    let rows = vec![in alloc;
+        row(5, 0, Kind::Send, 0x89ab_cdef),
+        row(5, 31, Kind::Recv, 0xffff_ffff),
+        row(1_000_000_000_062, 9, Kind::Step, 0x10),
+    ]?;
+    let trace = trace_of(rows, ended_parts(alloc)?);
+    let name = long_name(alloc)?;
     let text = format!(in alloc;
         "alone {name} from 0 to 125000000000
 5 0 send 89abcdef

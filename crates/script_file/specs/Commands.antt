@@ -35,7 +35,8 @@ word_at words n = unwrap_or (slice_get words n) []
 
 -- the words are `load`, a name, `at` and a cycle
 abbrev pub has_load_shape : List (List ℕ) → Bool
-has_load_shape words = length words == 4 && bytes_eq (word_at words 0) (codes "load") && bytes_eq (word_at words 2) (codes "at")
+has_load_shape words =
+    length words == 4 && bytes_eq (word_at words 0) (codes "load") && bytes_eq (word_at words 2) (codes "at")
 
 -- the load of a name, once its cycle is read
 abbrev pub load_at : List ℕ → Result ℕ NumFault → Result (Option Command) SRule
@@ -43,12 +44,12 @@ load_at name (Ok cycle) = Ok (Some (Load name cycle))
 load_at name (Err fault) = Err S3
 
 -- the load of a name at a cycle: the name is judged first, then the cycle
-abbrev pub load_of : List ℕ → List ℕ → Result (Option Command) SRule
-load_of name cycle = if is_name name then load_at name (number_read cycle LAST_STATED_CYCLE) else Err S2
+abbrev pub load_command_of : List ℕ → List ℕ → Result (Option Command) SRule
+load_command_of name cycle = if is_name name then load_at name (number_read cycle LAST_STATED_CYCLE) else Err S2
 
 -- the command of a line, or the least rule that it breaks. For now `load` is the one command.
 abbrev pub command_of : List (List ℕ) → Result (Option Command) SRule
-command_of words = if has_load_shape words then load_of (word_at words 1) (word_at words 3) else Err S1
+command_of words = if has_load_shape words then load_command_of (word_at words 1) (word_at words 3) else Err S1
 
 -- a blank line has no word, and a comment's first word begins with `#`
 abbrev pub is_remark : List (List ℕ) → Bool
@@ -95,11 +96,12 @@ unless_fault None commands = commands
 -- what the bytes of a script mean, where there is room for so many commands: its commands, or its first
 -- fault. A line that breaks a rule comes before too many commands.
 unfoldable pub script_meant : List ℕ → ℕ → Result (List Command) ScriptFault
-script_meant bytes room = unless_fault (first_fault 1 (lines_of bytes)) (within_room room (commands_in_lines (lines_of bytes)))
+script_meant bytes room =
+    unless_fault (first_fault 1 (lines_of bytes)) (within_room room (commands_in_lines (lines_of bytes)))
 
 -- the answer of a reader is what the bytes mean, or want of memory
-abbrev pub ReadsScript : Result (List Command) ScriptFault → Result Script ScriptFault → Type 0
-ReadsScript meant (Ok script) = meant ≡ Ok script.commands
-ReadsScript meant (Err (Line number rule)) = meant ≡ Err (Line number rule)
-ReadsScript meant (Err TooMany) = meant ≡ Err TooMany
-ReadsScript meant (Err NoMemory) = Unit {0}
+abbrev pub AnswersMeaning : Result (List Command) ScriptFault → Result Script ScriptFault → Type 0
+AnswersMeaning meant (Ok script) = meant ≡ Ok script.commands
+AnswersMeaning meant (Err (Line number rule)) = meant ≡ Err (Line number rule)
+AnswersMeaning meant (Err TooMany) = meant ≡ Err TooMany
+AnswersMeaning meant (Err NoMemory) = Unit {0}

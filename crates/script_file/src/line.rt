@@ -5,7 +5,7 @@ ghost use Rattle.std.specs.List.{list_all};
 ghost use Rattle.std.specs.Str.{bytes_eq};
 ghost use Rattle.std.specs.Str.Lines.{strip_carriage_return};
 ghost use Rattle.script_file.specs.Lines.{is_blank, words_of};
-ghost use Rattle.script_file.specs.Commands.{is_name, is_name_byte as is_byte_of_name, is_between as is_byte_between, line_meaning, load_of, words_meaning};
+ghost use Rattle.script_file.specs.Commands.{is_name, is_name_byte as is_byte_of_name, is_between as is_byte_between, line_meaning, load_command_of, words_meaning};
 
 use crate::command::Command;
 use crate::rules::{MOST_NAME_BYTES, SRule};
@@ -79,7 +79,7 @@ fn load_command(
     name: &[u8],
     cycle: &[u8],
 ) -> Result<Result<Option<Command>, SRule>, NoMemory>
-    ensures { IfOk result (λ meaning. meaning ≡ load_of name.now cycle.now) }
+    ensures { IfOk result (λ meaning. meaning ≡ load_command_of name.now cycle.now) }
 {
     if !is_bundle_name(name) {
         return Ok(Err(SRule::S2));

@@ -2,7 +2,7 @@
 
 ghost use Rattle.std.specs.Prelude.{◌≡◌, ◌+◌, ◌<◌, ◌≤◌, ◌^◌, ◌-◌, [], length, OnOk};
 ghost use Rattle.std.specs.List.{cons_option};
-ghost use Rattle.script_file.specs.Commands.{script_meant, ReadsScript};
+ghost use Rattle.script_file.specs.Commands.{script_meant, AnswersMeaning};
 ghost use Rattle.script_file.specs.inner.Keeping.{kept_with};
 
 use crate::command::{Command, Script};
@@ -11,13 +11,13 @@ use crate::rules::ScriptFault;
 use soc_base::{Items, MOST_FILE_BYTES, NoMemory};
 use std::alloc::Global;
 
-/// ReadsScript a script of at most 4,194,304 bytes, where there is room for so many commands. Refuses with
+/// AnswersMeaning a script of at most 4,194,304 bytes, where there is room for so many commands. Refuses with
 /// the first line that breaks a rule and the least rule that it breaks, or else where there are more
 /// commands than there is room for.
 #[tactic(auto, unfolding(crate::specs::Commands::script_meant))]
 pub fn read_script(alloc: Global, bytes: &[u8], room: u16) -> Result<Script, ScriptFault>
     requires { length bytes.now ≤ MOST_FILE_BYTES }
-    ensures { ReadsScript (script_meant bytes.now room) result }
+    ensures { AnswersMeaning (script_meant bytes.now room) result }
 {
     let mut kept = Kept {
         commands: Items::new(alloc),

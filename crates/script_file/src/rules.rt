@@ -1,7 +1,7 @@
 //! The rules of scripts.
 
 ghost use Rattle.std.specs.Prelude.{◌≡◌, ◌≤◌, length};
-ghost use Rattle.script_file.specs.Words.{script_rule_word};
+ghost use Rattle.script_file.specs.Words.{script_rule_text};
 
 use thiserror::Error;
 
@@ -26,7 +26,7 @@ pub enum SRule {
 impl SRule {
     /// Answers the word of the rule, as refusals print it: `S1` to `S3`.
     pub fn word(self) -> &'static str
-        ensures text { result.now ≡ script_rule_word self }
+        ensures text { result.now ≡ script_rule_text self }
         ensures short { length result.now ≤ 2 }
     {
         match self {

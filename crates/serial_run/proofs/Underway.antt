@@ -13,7 +13,7 @@ use Rattle.tile_core.specs.Slot.{tile_slot}
 use Rattle.tile_core.specs.Lockstep.{Machine, fresh_machine, machine_slot, lockstep}
 use Rattle.tile_core.specs.Fit.{IsReady, IsUnderway}
 use Rattle.serial_run.specs.Run.{tiles_of}
-use Rattle.serial_run.specs.Stations.{station_slot}
+use Rattle.serial_run.specs.inner.Stations.{station_slot}
 
 -- what holds of each image holds of what it is the image of
 pub all_unmap : {X Y : Type 0} (P : X → Type 0) (f : Y → X) (ys : List Y) → All P (map f ys) → All (λ y. P (f y)) ys

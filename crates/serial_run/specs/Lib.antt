@@ -1,3 +1,2 @@
 pub mod Run
-pub mod Stations
-pub mod Rounds
+pub mod inner

@@ -1,5 +1,6 @@
 -- What a rig needs to go on, and what a run ends with.
 use Rattle.std.specs.Prelude.{◌≡◌, ℕ, ◌*◌, ◌≤◌, List, map}
+use Rattle.soc_base.specs.declared.limits.TheConstants.{LAST_CYCLE}
 use Rattle.bundle_model.specs.declared.world.World.{World}
 use Rattle.bundle_model.specs.declared.world.LoadName.{LoadName}
 use Rattle.bundle_model.specs.declared.world.Schedule.{Schedule}
@@ -27,8 +28,9 @@ pub record CanFinish (world : World) (schedule : Schedule) (until : ℕ) (machin
   pub apart : IsApart world schedule.grants.items
   pub of_loads : AreOfLoads loads schedule.grants.items
   pub reached : until ≤ schedule.horizon
-  pub bounded : schedule.horizon * world.platform.slot_cycles ≤ 1000000000063
+  pub bounded : schedule.horizon * world.platform.slot_cycles ≤ LAST_CYCLE
 
 -- the tiles are those of the machine after the grants of a history, in step at the end of the run
 abbrev pub EndsInStep : Setup → RunEnd → Type 0
-EndsInStep setup end = tiles_of end.stations ≡ (lockstep setup.world setup.loads (grants_of setup end.history) setup.budget).tiles
+EndsInStep setup end =
+    tiles_of end.stations ≡ (lockstep setup.world setup.loads (grants_of setup end.history) setup.budget).tiles

@@ -7,7 +7,7 @@ ghost use Rattle.tile_core.specs.Fit.{IsReady, IsUnderway};
 ghost use Rattle.tile_core.specs.Slot.{tile_slot};
 ghost use Rattle.tile_core.specs.Lockstep.{fresh_machine, machine_slot, lockstep};
 ghost use Rattle.serial_run.specs.Run.{CanFinish, tiles_of};
-ghost use Rattle.serial_run.specs.Stations.{station_slot};
+ghost use Rattle.serial_run.specs.inner.Stations.{station_slot};
 
 use bundle_model::{LoadName, Schedule, World};
 use soc_base::{Flit, NoMemory};
@@ -83,7 +83,7 @@ impl Rig {
 
     /// Brings all tiles, slot by slot, from before their first slot to the slot `until`, by a schedule
     /// whose horizon isn't below it. Takes no memory.
-    #[tactic(auto, using(soc_base::proofs::StepLemmas::steps_none, soc_base::proofs::StepLemmas::steps_more, crate::proofs::Underway::all_ready, crate::proofs::Underway::underway_more))]
+    #[tactic(auto, using(soc_base::proofs::Laws::steps_none, soc_base::proofs::Laws::steps_more, crate::proofs::Underway::all_ready, crate::proofs::Underway::underway_more))]
     pub fn finish(mut self, world: &World, schedule: &Schedule, until: u64) -> Vec<Station>
         requires { CanFinish world.now schedule.now until self }
         ensures { (loads : List LoadName) → self ≡ fresh_machine world.now loads → tiles_of result.items ≡ (lockstep world.now loads schedule.now.grants.items until).tiles }

@@ -6,23 +6,20 @@ ghost use Rattle.vep_manager.specs.Setup.{IsSound};
 ghost use Rattle.vep_manager.specs.History.{IsSession, grants_of};
 ghost use Rattle.vep_manager.specs.Legal.{IsRoundRobin};
 ghost use Rattle.serial_run.specs.Run.{EndsInStep};
-ghost use Rattle.serial_run.specs.Rounds.{IsAtTurn};
+ghost use Rattle.serial_run.specs.inner.Rounds.{TakesTurn, EndsRound};
 
 use crate::end::RunEnd;
 use crate::rig::Rig;
 use bundle_model::Schedule;
-use soc_base::{Items, NoMemory};
+use soc_base::{Items, MOST_COMMANDS, MOST_SCRIPTS, NoMemory};
 use std::alloc::Global;
 use vep_manager::{Manager, Setup};
-
-// The most commands that a script has, and so the most rounds that are needed.
-const MOST_COMMANDS: u16 = 256;
 
 // Commits the next command of a session, if it has one, and answers whether it has.
 fn turn(manager: &mut Manager<'_>, session: u8) -> bool
     requires { IsSession manager.old.setup session }
     ensures setup { manager.new.setup ≡ manager.old.setup }
-    ensures turn { (rounds : ℕ) → IsAtTurn manager.old.setup rounds session manager.old.history → IsAtTurn manager.new.setup rounds (session + 1) manager.new.history }
+    ensures turn { TakesTurn session manager.old manager.new }
     ensures idle { result ≡ false → manager.new.history ≡ manager.old.history }
 {
     manager.commit(session).is_some()
@@ -31,9 +28,9 @@ fn turn(manager: &mut Manager<'_>, session: u8) -> bool
 // Gives each session a turn, and answers whether one had a command.
 fn round(manager: &mut Manager<'_>, sessions: u8) -> bool
     requires sessions { sessions ≡ length manager.old.setup.scripts }
-    requires few { sessions ≤ 16 }
+    requires few { sessions ≤ MOST_SCRIPTS }
     ensures setup { manager.new.setup ≡ manager.old.setup }
-    ensures round { (rounds : ℕ) → IsAtTurn manager.old.setup rounds 1 manager.old.history → IsAtTurn manager.new.setup (rounds + 1) 1 manager.new.history }
+    ensures round { EndsRound manager.old manager.new }
     ensures idle { result ≡ false → manager.new.history ≡ manager.old.history }
 {
     let mut busy = false;
@@ -52,6 +49,7 @@ fn commit_all(manager: &mut Manager<'_>, sessions: u8)
     ensures rounds { IsRoundRobin manager.new.setup manager.new.history }
     ensures apart { IsApart manager.new.setup.world (grants_of manager.new.setup manager.new.history) }
 {
+    // A session has no more commands than a run, so as many rounds are enough.
     for _round in 0..MOST_COMMANDS {
         if !round(manager, sessions) {
             return;

@@ -6,12 +6,12 @@ ghost use Rattle.bundle_model.specs.declared.rules.BRule.{BRule};
 ghost use Rattle.bundle_model.specs.World.{IsSoundCatalog};
 ghost use Rattle.bundle_model.specs.WellFormed.{IsWellFormed};
 ghost use Rattle.script_file.specs.declared.command.Command.{Command};
-ghost use Rattle.script_file.specs.declared.command.Script.{Script};
 ghost use Rattle.vep_manager.specs.Setup.{IsSound};
+ghost use Rattle.serial_run.specs.inner.Sample.{sample_file, sample_scripts};
 
 use crate::{RunEnd, serial_all};
 use bundle_model::{Bundle, LoadName, Named, RawBundle, RawPart, Resource, World, check};
-use platform_model::{Platform, RawCosts, RawPlatform};
+use platform_model::Platform;
 use script_file::{Command, Script};
 use soc_base::{Items, Label, Text};
 use std::alloc::Global;
@@ -20,39 +20,8 @@ use std::test::Fail;
 use trace_log::{Kind, PartEnd, TraceRow};
 use vep_manager::{Entry, Reply, Setup};
 
-// A platform of one tile whose two partition slots are served from cycles 72 and 200 on, and again
-// 256 cycles later.
-fn platform(alloc: Global) -> Result<Platform, Fail> {
-    let costs = RawCosts {
-        integer: 1,
-        mul: 3,
-        div: 34,
-        load: 2,
-        store: 2,
-        taken: 3,
-        untaken: 1,
-        jump: 3,
-        device: 4,
-        system: 1,
-    };
-    let raw = RawPlatform {
-        tiles: 1,
-        mem_bytes: 4096,
-        slot_cycles: 8,
-        table_slots: 8,
-        kernel_cycles: 72,
-        partition_cycles: 56,
-        partition_slots: 2,
-        ports: 2,
-        queue: 8,
-        links: Items::new(alloc),
-        costs,
-    };
-    Ok(Platform::check(alloc, &raw)?)
-}
-
 // A bundle of one part in partition slot 0 that traces 7 and ends: its instructions take 1, 1, 4 and
-// 1 cycles.
+// 1 cycles. On the plain platform the slot is served from cycle 72 on, and again 256 cycles later.
 fn bundle(alloc: Global, platform: &Platform) -> Result<Bundle, Fail>
     ensures { IfOk result (IsWellFormed platform.now) }
 {
@@ -84,9 +53,9 @@ fn bundle(alloc: Global, platform: &Platform) -> Result<Bundle, Fail>
 // The platform and one bundle file.
 fn world(alloc: Global) -> Result<World, Fail>
     ensures sound { IfOk result IsSoundCatalog }
-    ensures one { IfOk result (λ world. (judged : Result Bundle BRule) × (world.catalog ≡ record { name = codes "app"; judged = judged } ∷ [])) }
+    ensures one { IfOk result (λ world. (judged : Result Bundle BRule) × (world.catalog ≡ sample_file judged ∷ [])) }
 {
-    let platform = platform(alloc)?;
+    let platform = Platform::plain(alloc)?;
     let named = Named {
         name: Text::from_str(alloc, "app")?,
         judged: Ok(bundle(alloc, &platform)?),
@@ -114,7 +83,7 @@ fn script(commands: Vec<Command>) -> Script
 
 // One session loads and has no more to say, one has nothing to stop, and one wants what is taken.
 fn scripts(alloc: Global) -> Result<Items<Script>, Fail>
-    ensures { IfOk result (λ scripts. scripts ≡ (record { commands = Command.Load (codes "app") 0 ∷ [] }) ∷ (record { commands = Command.Until 16 ∷ Command.Stop 1 0 ∷ Command.Until 24 ∷ [] }) ∷ (record { commands = Command.Load (codes "app") 8 ∷ Command.Until 80 ∷ [] }) ∷ []) }
+    ensures { IfOk result (λ scripts. scripts ≡ sample_scripts) }
 {
     let first = script(vec![in alloc; load(alloc, 0)?]?);
     let stop = Command::Stop { load: 1, cycle: 0 };

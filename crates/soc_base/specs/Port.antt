@@ -20,13 +20,17 @@ pub record PortState : Type 0 where
   pub credit : ℕ
   pub owed : ℕ
 
+-- a port that holds no word and owes no credit
+abbrev pub empty_port : ℕ → PortState
+empty_port credit = record { send = []; recv = []; credit = credit; owed = 0 }
+
 -- a port when its application is granted, with `queue` places in each queue
 abbrev pub granted_port : ℕ → PortState
-granted_port queue = record { send = []; recv = []; credit = queue; owed = 0 }
+granted_port queue = empty_port queue
 
 -- a port that no application holds
 abbrev pub free_port : PortState
-free_port = record { send = []; recv = []; credit = 0; owed = 0 }
+free_port = empty_port 0
 
 -- a word joins the send queue; none where the queue is full
 abbrev pub put : ℕ → ℕ → PortState → Option PortState

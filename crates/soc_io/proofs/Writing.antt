@@ -60,17 +60,3 @@ printed_stopped text old before bytes new now so_far =
 pub writes_of_printed : (text : List ℕ) (old : Option (List ℕ)) (before : ℕ) (new : Option (List ℕ)) (now : ℕ) (failed : Bool) → Printed text old before new now failed → Writes text old before new now (if failed then Err Failed else Ok (tt {0}))
 writes_of_printed text old before new now true so_far = so_far.so_far
 writes_of_printed text old before new now false so_far = so_far.so_far
-
--- In a loop over xs that prints the text of each: before the first item, after one more, at the end.
-pub rows_none : {X : Type 0} (f : X → List ℕ) (xs : List X) (i : ℕ) (text : List ℕ) → i ≡ 0 → text ++ flat_map f (take i xs) ≡ text
-rows_none f xs i text e =
-    let P : ℕ → Type 0 = λ n. text ++ flat_map f (take n xs) ≡ text in
-    subst P (sym e) (append-nil text)
-
-pub rows_more : {X : Type 0} (f : X → List ℕ) (xs : List X) (i : ℕ) (d : X) (text : List ℕ) → i < length xs → (text ++ flat_map f (take i xs)) ++ f (get_or xs i d) ≡ text ++ flat_map f (take (i + 1) xs)
-rows_more f xs i d text inside =
-    let next : flat_map f (take (i + 1) xs) ≡ flat_map f (take i xs) ++ f (get_or xs i d) = ap (flat_map f) (take_at_read xs i d inside).1 ∙ flat_map-append f (take i xs) (get_or xs i d ∷ []) ∙ ap (λ t. flat_map f (take i xs) ++ t) (append-nil (f (get_or xs i d))) in
-    append_assoc text (flat_map f (take i xs)) (f (get_or xs i d)) ∙ ap (λ t. text ++ t) (sym next)
-
-pub rows_all : {X : Type 0} (f : X → List ℕ) (xs : List X) (i : ℕ) (text : List ℕ) → length xs ≤ i → text ++ flat_map f (take i xs) ≡ text ++ flat_map f xs
-rows_all f xs i text past = ap (λ t. text ++ flat_map f t) (take_all i xs past)

@@ -1,12 +1,13 @@
 -- What is told of files, and what a read of one answers.
 use Rattle.std.specs.Prelude.{◌≡◌, ℕ, ◌<◌, List, [], ◌∷◌, ◌++◌, length, find, position, slice_set, bytes_eq, Option, Some, None, option_map, Result, Ok, Err}
+use Rattle.soc_base.specs.declared.limits.TheConstants.{MOST_FILE_BYTES}
 use Rattle.soc_io.specs.declared.files.FilesFault.{FilesFault}
 use Rattle.soc_io.specs.declared.files.FilesFault.TheVariants.{Absent, TooLong, Failed, NoMemory}
 use Rattle.soc_io.specs.Counts.{one_more, Rose}
 
--- the most bytes that a file has which is read
+-- the most bytes that a file has which is read, by the name that callers use
 abbrev pub file_limit : ℕ
-file_limit = 4194304
+file_limit = MOST_FILE_BYTES
 
 -- files, each as its name and its bytes
 abbrev pub Held : Type 0
@@ -16,6 +17,7 @@ Held = List (List ℕ × List ℕ)
 abbrev pub held_at : Held → List ℕ → Option (List ℕ)
 held_at held name = option_map (λ file. file.1) (find (λ file. bytes_eq file.0 name) held)
 
+-- the files with a file at the place of another, or behind all
 abbrev pub with_file_at : Option ℕ → Held → List ℕ × List ℕ → Held
 with_file_at (Some place) held file = slice_set held place file
 with_file_at None held file = held ++ file ∷ []
@@ -29,7 +31,7 @@ with_file held name bytes = with_file_at (position (λ file. bytes_eq file.0 nam
 abbrev pub ReadsHeld : Option (List ℕ) → ℕ → ℕ → List ℕ → Result Unit FilesFault → Type 0
 ReadsHeld file before now into (Ok done) = file ≡ Some into
 ReadsHeld file before now into (Err Absent) = file ≡ None
-ReadsHeld file before now into (Err TooLong) = (long : List ℕ) × (file ≡ Some long) × (file_limit < length long)
+ReadsHeld file before now into (Err TooLong) = (long : List ℕ) × (file ≡ Some long) × (MOST_FILE_BYTES < length long)
 ReadsHeld file before now into (Err Failed) = Rose before now
 ReadsHeld file before now into (Err NoMemory) = Unit {0}
 

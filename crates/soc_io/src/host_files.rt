@@ -1,9 +1,12 @@
 //! The host's files.
 
-ghost use Rattle.std.specs.Prelude.{◌≡◌, ◌≤◌, [], length, None, OnErr};
-ghost use Rattle.soc_io.specs.Reading.{Reads, file_limit, faults_after};
+ghost use Rattle.std.specs.Prelude.{◌≡◌, ◌<◌, ◌≤◌, [], length, None, IfSome, Err, OnOk, OnErr};
+ghost use Rattle.soc_base.specs.declared.limits.TheConstants.{MOST_FILE_BYTES};
+ghost use Rattle.soc_io.specs.Reading.{Reads, faults_after};
+ghost use Rattle.soc_io.specs.declared.files.FilesFault.TheVariants.{TooLong};
 
-use crate::files::{FILE_LIMIT, Files, FilesFault};
+use crate::files::{Files, FilesFault};
+use soc_base::MOST_FILE_BYTES;
 use std::alloc::Global;
 use std::fs::File;
 use std::io::{ErrorKind, Read};
@@ -25,40 +28,37 @@ impl<'r, R: std::rt::Files> HostFiles<'r, R> {
     }
 }
 
-// Appends a file's bytes to what is empty. A read that was interrupted is tried again.
-fn read_whole<F: Read>(file: &mut F, into: &mut Vec<u8>) -> Result<(), FilesFault>
+// Reads what is left of a file to what is empty, where it is no longer than a file may be. After a
+// refusal a front of it may stand there.
+fn read_whole<F: Read + Drop>(file: F, into: &mut Vec<u8>) -> Result<(), FilesFault>
     requires { into.old.items ≡ [] }
-    ensures { length into.new.items ≤ file_limit }
+    ensures whole { OnOk result (IfSome (F.remaining file) (λ bytes. into.new.items ≡ bytes)) }
+    ensures size { OnOk result (length into.new.items ≤ MOST_FILE_BYTES) }
+    ensures long { result ≡ Err TooLong → IfSome (F.remaining file) (λ bytes. MOST_FILE_BYTES < length bytes) }
 {
-    let mut buffer = [0u8; 4096];
-    for _ in 0..u64::MAX {
-        match file.read(&mut buffer) {
-            Ok(0) => return Ok(()),
-            Ok(count) => {
-                if count > FILE_LIMIT - into.len() {
-                    return Err(FilesFault::TooLong);
-                }
-                if into.extend_from_slice(&buffer[..count]).is_err() {
-                    return Err(FilesFault::NoMemory);
-                }
+    match file.take(MOST_FILE_BYTES as u64 + 1).read_to_end(into) {
+        Ok(count) => {
+            if count > MOST_FILE_BYTES {
+                return Err(FilesFault::TooLong);
             }
-            Err(error) => {
-                if error.kind() != ErrorKind::Interrupted {
-                    return Err(FilesFault::Failed);
-                }
+            Ok(())
+        }
+        Err(error) => {
+            if error.kind() == ErrorKind::OutOfMemory {
+                return Err(FilesFault::NoMemory);
             }
+            Err(FilesFault::Failed)
         }
     }
-    Err(FilesFault::Failed)
 }
 
 // Reads the file of a name to what is empty. After a refusal a front of it may stand there.
 fn read_named<R: std::rt::Files>(rt: &R, name: &str, into: &mut Vec<u8>) -> Result<(), FilesFault>
     requires { into.old.items ≡ [] }
-    ensures { length into.new.items ≤ file_limit }
+    ensures { OnOk result (length into.new.items ≤ MOST_FILE_BYTES) }
 {
     match File::open(rt, name) {
-        Ok(mut file) => read_whole(&mut file, into),
+        Ok(file) => read_whole(file, into),
         Err(error) => {
             if error.kind() == ErrorKind::NotFound {
                 Err(FilesFault::Absent)
@@ -76,7 +76,7 @@ impl<'r, R: std::rt::Files> Files for HostFiles<'r, R> {
 
     fn read(&mut self, _alloc: Global, name: &str, into: &mut Vec<u8>) -> Result<(), FilesFault>
         ensures answer { Reads None name.now self.old.count self.new.count into.new.items result }
-        ensures size { length into.new.items ≤ file_limit }
+        ensures size { length into.new.items ≤ MOST_FILE_BYTES }
         ensures refused { OnErr result (into.new.items ≡ []) }
         ensures faults { self.new.count ≡ faults_after result self.old.count }
         ensures counted { self.old.count ≤ self.new.count }
@@ -100,9 +100,13 @@ mod tests {
     use std::fs;
     use std::test::Fail;
 
-    // So many bytes.
-    fn filled(alloc: Global, len: usize) -> Result<Vec<u8>, AllocError> {
-        Vec::from_elem(alloc, b'x', len)
+    // Four bytes for each number from 0 on, so that no part of the list is like another.
+    fn counted(alloc: Global, numbers: u32) -> Result<Vec<u8>, AllocError> {
+        let mut bytes = Vec::new(alloc);
+        for number in 0..numbers {
+            bytes.extend_from_slice(&number.to_le_bytes())?;
+        }
+        Ok(bytes)
     }
 
     #[test]
@@ -111,13 +115,13 @@ mod tests {
         let folder = "soc_io_host_files";
         fs::create_dir_all(&rt, folder)?;
         fs::write(&rt, "soc_io_host_files/small", "some bytes")?;
-        let whole = filled(alloc, 4_194_304)?;
+        let mut whole = counted(alloc, 1_048_576)?;
         fs::write(&rt, "soc_io_host_files/whole", whole.as_slice())?;
-        let long = filled(alloc, 4_194_305)?;
-        fs::write(&rt, "soc_io_host_files/long", long.as_slice())?;
+        whole.push(0)?;
+        fs::write(&rt, "soc_io_host_files/long", whole.as_slice())?;
         let cases = [
             ("soc_io_host_files/small", Ok(()), 10),
-            ("soc_io_host_files/whole", Ok(()), 4_194_304),
+            ("soc_io_host_files/whole", Ok(()), MOST_FILE_BYTES),
             ("soc_io_host_files/long", Err(FilesFault::TooLong), 0),
             ("soc_io_host_files/none", Err(FilesFault::Absent), 0),
             ("soc_io_host_files", Err(FilesFault::Failed), 0),
@@ -131,6 +135,8 @@ mod tests {
         let mut into = Vec::new(alloc);
         files.read(alloc, "soc_io_host_files/small", &mut into)?;
         assert_eq!(rt; into.as_slice(), b"some bytes".as_slice());
+        files.read(alloc, "soc_io_host_files/whole", &mut into)?;
+        assert!(rt; into.as_slice() == &whole[..MOST_FILE_BYTES]);
         fs::remove_dir_all(&rt, folder)?;
         Ok(())
     }

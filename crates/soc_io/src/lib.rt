@@ -3,8 +3,8 @@
 //! one in memory, whose content is told and which fails where it is asked to.
 //!
 //! `specs/` has what a caller cites: `Counts` (when a count of faults rose), `Reading` (what a read
-//! answers), `Writing` (what a write answers, and what several of them printed), and the states of
-//! the two in memory, `Shelf` and `Tape`.
+//! answers), `Writing` (what a write answers, and what several of them printed), `Printing` (the
+//! same, as contracts over any sink say it), and the states of the two in memory, `Shelf` and `Tape`.
 #![tactic(auto)]
 
 /// Files that are read whole, by name.
@@ -24,7 +24,7 @@ mod printer;
 /// A sink that is written.
 mod sink;
 
-pub use files::{FILE_LIMIT, Files, FilesFault};
+pub use files::{Files, FilesFault};
 pub use host_files::HostFiles;
 pub use host_sink::HostSink;
 pub use mem_files::MemFiles;

@@ -2,12 +2,13 @@
 
 ghost use Rattle.std.specs.Prelude.{◌≡◌, ◌≢◌, ℕ, ◌≤◌, ◌<◌, ◌↔◌, [], length, position, find, bytes_eq, Option, Some, IsTrue, OnOk, OnErr};
 ghost use Rattle.std.specs.Option.{option_copied};
-ghost use Rattle.soc_io.specs.Reading.{with_file, Reads, ReadsHeld, held_at, file_limit};
+ghost use Rattle.soc_io.specs.Reading.{with_file, Reads, ReadsHeld, held_at};
+ghost use Rattle.soc_base.specs.declared.limits.TheConstants.{MOST_FILE_BYTES};
 ghost use Rattle.soc_io.specs.Shelf.{Shelf, shelf_fails, shelf_after};
 
-use crate::files::{FILE_LIMIT, Files, FilesFault};
+use crate::files::{Files, FilesFault};
 use crate::listed::is_listed;
-use soc_base::{Items, NoMemory, Text};
+use soc_base::{Items, MOST_FILE_BYTES, NoMemory, Text};
 use std::alloc::{AllocError, Global};
 use std::marker::Model;
 
@@ -62,14 +63,14 @@ fn copy_found(
     requires { into.old.items ≡ [] }
     ensures answer { (before now : ℕ) → ReadsHeld (held_at entries.now name.now) before now into.new.items result }
     ensures never_failed { result ≢ Err FilesFault.Failed }
-    ensures size { length into.new.items ≤ file_limit }
+    ensures size { length into.new.items ≤ MOST_FILE_BYTES }
     ensures refused { OnErr result (into.new.items ≡ []) }
 {
     let Some(entry) = found(entries, name) else {
         return Err(FilesFault::Absent);
     };
     let bytes = entry.1.as_slice();
-    if bytes.len() > FILE_LIMIT {
+    if bytes.len() > MOST_FILE_BYTES {
         return Err(FilesFault::TooLong);
     }
     match into.extend_from_slice(bytes) {
@@ -115,7 +116,7 @@ impl Files for MemFiles {
 
     fn read(&mut self, _alloc: Global, name: &str, into: &mut Vec<u8>) -> Result<(), FilesFault>
         ensures answer { Reads (Some self.old.held) name.now self.old.faults self.new.faults into.new.items result }
-        ensures size { length into.new.items ≤ file_limit }
+        ensures size { length into.new.items ≤ MOST_FILE_BYTES }
         ensures refused { OnErr result (into.new.items ≡ []) }
         ensures failed { (result ≡ Err FilesFault.Failed) ↔ IsTrue (shelf_fails self.old) }
         ensures after { self.new ≡ shelf_after self.old }
@@ -181,10 +182,10 @@ mod tests {
     fn reads_up_to_the_limit(rt: HostRuntime) -> Result<(), Fail> {
         let alloc = rt.alloc();
         let mut files = MemFiles::new(alloc, Vec::new(alloc));
-        files.add("whole", filled(alloc, 4_194_304)?.as_slice())?;
-        files.add("long", filled(alloc, 4_194_305)?.as_slice())?;
+        files.add("whole", filled(alloc, MOST_FILE_BYTES)?.as_slice())?;
+        files.add("long", filled(alloc, MOST_FILE_BYTES + 1)?.as_slice())?;
         let whole = answer(alloc, &mut files, "whole")?;
-        assert_eq!(rt; whole.len(), 4_194_304);
+        assert_eq!(rt; whole.len(), MOST_FILE_BYTES);
         let mut into = Vec::from_slice(alloc, b"left over")?;
         let long = files.read(alloc, "long", &mut into);
         assert_eq!(rt; long, Err(FilesFault::TooLong));

@@ -1,7 +1,7 @@
 //! A text in several writes.
 
-ghost use Rattle.std.specs.Prelude.{◌≡◌, false, ℕ, ◌+◌, ◌≤◌, [], ◌++◌, length, List, Option, IsTrue, if◌then◌else◌};
-ghost use Rattle.soc_io.specs.Writing.{Printed};
+ghost use Rattle.std.specs.Prelude.{◌≡◌, false, ◌+◌, ◌≤◌, [], ◌++◌, length, IsTrue, if◌then◌else◌};
+ghost use Rattle.soc_io.specs.Printing.{HasPrinted, PrintsMore};
 
 use crate::sink::{Sink, SinkFault};
 use soc_base::Line;
@@ -17,7 +17,7 @@ impl<'s, S: Sink> Printer<'s, S> {
     /// Begins a text.
     #[tactic(auto, using(crate::proofs::Writing::printed_nothing))]
     pub fn new(sink: &'s mut S) -> Printer<'s, S>
-        ensures printed { Printed [] (S.written sink.old) (S.faults sink.old) (S.written result.sink.now) (S.faults result.sink.now) result.failed }
+        ensures printed { HasPrinted S.written S.faults sink.old result [] }
         ensures unfailed { result.failed ≡ false }
         ensures untouched { result.sink.now ≡ sink.old }
         ensures same { result.sink.ghost_name ≡ sink.entry.ghost_name }
@@ -31,7 +31,7 @@ impl<'s, S: Sink> Printer<'s, S> {
     /// Prints more of the text, unless a write failed before.
     #[tactic(auto, using(crate::proofs::Writing::printed_then, crate::proofs::Writing::printed_stopped))]
     pub fn put(&mut self, bytes: &[u8])
-        ensures printed { (text : List ℕ) (old : Option (List ℕ)) (before : ℕ) → Printed text old before (S.written self.old.sink.now) (S.faults self.old.sink.now) self.old.failed → Printed (text ++ bytes.now) old before (S.written self.new.sink.now) (S.faults self.new.sink.now) self.new.failed }
+        ensures printed { PrintsMore S.written S.faults self.old self.new bytes.now }
         ensures stopped { IsTrue self.old.failed → self.new.sink.now ≡ self.old.sink.now }
         ensures stays_failed { IsTrue self.old.failed → IsTrue self.new.failed }
         ensures same { self.new.sink.ghost_name ≡ self.old.sink.ghost_name }
@@ -44,7 +44,7 @@ impl<'s, S: Sink> Printer<'s, S> {
 
     /// Prints a line around a name: in one write where it has at most 512 bytes, and else in three.
     pub fn put_named(&mut self, front: &str, name: &str, back: &str)
-        ensures printed { (text : List ℕ) (old : Option (List ℕ)) (before : ℕ) → Printed text old before (S.written self.old.sink.now) (S.faults self.old.sink.now) self.old.failed → Printed (text ++ (front.now ++ name.now ++ back.now)) old before (S.written self.new.sink.now) (S.faults self.new.sink.now) self.new.failed }
+        ensures printed { PrintsMore S.written S.faults self.old self.new (front.now ++ name.now ++ back.now) }
         ensures same { self.new.sink.ghost_name ≡ self.old.sink.ghost_name }
     {
         if front
@@ -61,7 +61,7 @@ impl<'s, S: Sink> Printer<'s, S> {
 
     // Prints three pieces in as many writes.
     fn put_three(&mut self, front: &str, name: &str, back: &str)
-        ensures printed { (text : List ℕ) (old : Option (List ℕ)) (before : ℕ) → Printed text old before (S.written self.old.sink.now) (S.faults self.old.sink.now) self.old.failed → Printed (text ++ (front.now ++ name.now ++ back.now)) old before (S.written self.new.sink.now) (S.faults self.new.sink.now) self.new.failed }
+        ensures printed { PrintsMore S.written S.faults self.old self.new (front.now ++ name.now ++ back.now) }
         ensures same { self.new.sink.ghost_name ≡ self.old.sink.ghost_name }
     {
         self.put(front.as_bytes());

@@ -6,6 +6,7 @@ pub mod Sound
 pub mod Joined
 pub mod Decided
 pub mod RunEndings
+pub mod Exchanges
 pub mod Causes
 pub mod Exclusive
 pub mod Statuses

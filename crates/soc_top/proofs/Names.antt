@@ -10,24 +10,28 @@ use Rattle.bundle_model.specs.Sets.{names}
 use Rattle.script_file.specs.declared.command.Command.{Command}
 use Rattle.vep_manager.specs.Loads.{loaded_name, loaded_names}
 use Rattle.soc_top.specs.Setups.{with_name, bundle_names}
-use Rattle.soc_top.specs.Naming.{with_loaded, with_command}
+use Rattle.soc_top.specs.inner.Naming.{with_loaded, with_command}
 
 -- naming one command after another names each name once
-named_then : (known : List (List ℕ)) (found : Option (List ℕ)) (later : List (List ℕ)) → fold with_name (with_loaded known found) later ≡ fold with_name known (cons_option found later)
+named_then : (known : List (List ℕ)) (found : Option (List ℕ)) (later : List (List ℕ))
+    → fold with_name (with_loaded known found) later ≡ fold with_name known (cons_option found later)
 named_then known (Some name) later = refl
 named_then known None later = refl
 
-named_from : (known : List (List ℕ)) (commands : List Command) → fold with_command known commands ≡ fold with_name known (loaded_names commands)
+named_from : (known : List (List ℕ)) (commands : List Command)
+    → fold with_command known commands ≡ fold with_name known (loaded_names commands)
 named_from known [] = refl
 named_from known (command ∷ commands) =
     named_from (with_command known command) commands ∙ named_then known (loaded_name command) (loaded_names commands)
 
-pub named_end : (commands items : List Command) (i : ℕ) (known : List (List ℕ)) → items ≡ commands → length items ≤ i → known ≡ fold with_command [] (take i items) → known ≡ bundle_names commands
+pub named_end : (commands items : List Command) (i : ℕ) (known : List (List ℕ)) → items ≡ commands → length items ≤ i
+    → known ≡ fold with_command [] (take i items) → known ≡ bundle_names commands
 named_end commands items i known same whole is =
     is ∙ ap (fold with_command []) (take_all i items whole ∙ same) ∙ named_from [] commands
 
 -- no more names than commands
-few_with : (b : Bool) (known : List (List ℕ)) (name : List ℕ) → length (cond b known (known ++ name ∷ [])) ≤ length known + 1
+few_with : (b : Bool) (known : List (List ℕ)) (name : List ℕ)
+    → length (cond b known (known ++ name ∷ [])) ≤ length known + 1
 few_with true known name = omega arith
 few_with false known name = omega (arith, length-append known (name ∷ []))
 
@@ -59,26 +63,34 @@ few_names commands =
 or_left : (a b : Bool) → a ≡ true → (a || b) ≡ true
 or_left a b e = rw e refl
 
-kept_with : (b : Bool) (known : List (List ℕ)) (name other : List ℕ) → names known other ≡ true → names (cond b known (known ++ name ∷ [])) other ≡ true
+kept_with : (b : Bool) (known : List (List ℕ)) (name other : List ℕ) → names known other ≡ true
+    → names (cond b known (known ++ name ∷ [])) other ≡ true
 kept_with true known name other here = here
 kept_with false known name other here =
     list_any-append (λ known_name. bytes_eq known_name other) known (name ∷ []) ∙ or_left (names known other) _ here
 
-kept_from : (known all : List (List ℕ)) (other : List ℕ) → names known other ≡ true → names (fold with_name known all) other ≡ true
+kept_from : (known all : List (List ℕ)) (other : List ℕ) → names known other ≡ true
+    → names (fold with_name known all) other ≡ true
 kept_from known [] other here = here
-kept_from known (name ∷ all) other here = kept_from (with_name known name) all other (kept_with (names known name) known name other here)
+kept_from known (name ∷ all) other here =
+    kept_from (with_name known name) all other (kept_with (names known name) known name other here)
 
 or_right : (a : Bool) → (a || (true || false)) ≡ true
 or_right true = refl
 or_right false = refl
 
-added_with : (b : Bool) (known : List (List ℕ)) (name : List ℕ) → names known name ≡ b → names (cond b known (known ++ name ∷ [])) name ≡ true
+added_with : (b : Bool) (known : List (List ℕ)) (name : List ℕ) → names known name ≡ b
+    → names (cond b known (known ++ name ∷ [])) name ≡ true
 added_with true known name here = here
 added_with false known name here =
-    let last : names (name ∷ []) name ≡ (true || false) = ap (λ b. b || false) ((bytes_eq-Decides name name).1 refl) in
-    list_any-append (λ known_name. bytes_eq known_name name) known (name ∷ []) ∙ ap (λ b. names known name || b) last ∙ or_right (names known name)
+    let last : names (name ∷ []) name ≡ (true || false) =
+        ap (λ b. b || false) ((bytes_eq-Decides name name).1 refl) in
+    list_any-append (λ known_name. bytes_eq known_name name) known (name ∷ []) ∙ ap (λ b. names known name || b) last
+        ∙ or_right (names known name)
 
 pub named_among : (known all : List (List ℕ)) → All (λ name. names (fold with_name known all) name ≡ true) all
 named_among known [] = All-nil (λ name. names known name ≡ true)
 named_among known (name ∷ all) =
-    All-cons (λ other. names (fold with_name (with_name known name) all) other ≡ true) name all (kept_from (with_name known name) all name (added_with (names known name) known name refl)) (named_among (with_name known name) all)
+    All-cons (λ other. names (fold with_name (with_name known name) all) other ≡ true) name all
+        (kept_from (with_name known name) all name (added_with (names known name) known name refl))
+        (named_among (with_name known name) all)

@@ -13,24 +13,31 @@ use Rattle.soc_top.specs.declared.ending.Ending.TheVariants.{Done, Unwritten, Re
 use Rattle.soc_top.specs.Exchange.{Exchange, Says}
 use Rattle.soc_top.specs.Faults.{fault_line, fault_status, ending_status}
 use Rattle.soc_top.specs.Setups.{GivesSetup, RunFault, IsDecidedFault, AllowsRun}
-use Rattle.soc_top.specs.Run.{ReportOf, RefusesRun, Ends, RunAnswers}
+use Rattle.soc_top.specs.Run.{ReportOf, RefusesRun, EndsRun, RunAnswers}
 use Rattle.soc_top.proofs.Catalogs.{all_there}
 use Rattle.soc_top.proofs.Decided.{undecided, as_decided, one_status}
 use Rattle.soc_top.proofs.Statuses.{at_two, at_three, at_four, at_five, at_seven, never}
 use Rattle.soc_top.proofs.Joined.{run_without_memory}
 
 -- files that give a setup allow the run
-allows_of : (held : Held) (request : RunWords) (setup : Setup) → GivesSetup held request setup → AllowsRun held request
+allows_of : (held : Held) (request : RunWords) (setup : Setup) → GivesSetup held request setup
+    → AllowsRun held request
 allows_of held request setup gives =
-    ((setup.world.platform, gives.platform), (gives.commands, gives.script, subst (All (λ name. IsSome (held_at held name))) gives.catalog (all_there setup.world.platform held setup.world.catalog gives.judged)))
+    ((setup.world.platform, gives.platform),
+        (gives.commands, gives.script, subst (All (λ name. IsSome (held_at held name))) gives.catalog
+        (all_there setup.world.platform held setup.world.catalog gives.judged)))
 
-text_undecided : (e : Exchange) (request : RunWords) (text : List ℕ) → ReportOf e.held request text → (held : Held) (fault : TopFault) → e.held ≡ Some held → IsDecidedFault held request fault → ⊥
+text_undecided : (e : Exchange) (request : RunWords) (text : List ℕ) → ReportOf e.held request text
+    → (held : Held) (fault : TopFault) → e.held ≡ Some held → IsDecidedFault held request fault → ⊥
 text_undecided e request text is held fault told decided =
     let P : Option Held → Type 0 = λ h. ReportOf h request text in
     let (setup, gives, made) = subst P told is in
     undecided held request fault (allows_of held request setup gives) decided
 
-decided_by : (e : Exchange) (request : RunWords) (refused : TopFault) → RunFault e.held e.read_faults e.read_faults_now request refused → (held : Held) (fault : TopFault) → e.held ≡ Some held → (Rose e.read_faults e.read_faults_now → ⊥) → IsDecidedFault held request fault → (fault_status refused ≡ fault_status fault) ⊎ (fault_status refused ≡ 7)
+decided_by : (e : Exchange) (request : RunWords) (refused : TopFault)
+    → RunFault e.held e.read_faults e.read_faults_now request refused → (held : Held) (fault : TopFault)
+    → e.held ≡ Some held → (Rose e.read_faults e.read_faults_now → ⊥) → IsDecidedFault held request fault
+    → (fault_status refused ≡ fault_status fault) ⊎ (fault_status refused ≡ 7)
 decided_by e request refused cause held fault told calm decided =
     let P : Option Held → Type 0 = λ h. RunFault h e.read_faults e.read_faults_now request refused in
     elim (as_decided held e.read_faults e.read_faults_now request refused calm (subst P told cause)) [
@@ -38,7 +45,10 @@ decided_by e request refused cause held fault told calm decided =
       | inr memory ↦ inr (ap fault_status memory)
     ]
 
-refused_held : (e : Exchange) (request : RunWords) (refused : TopFault) → RunFault e.held e.read_faults e.read_faults_now request refused → (held : Held) → e.held ≡ Some held → (Rose e.read_faults e.read_faults_now → ⊥) → AllowsRun held request → (fault_status refused ≡ 0) ⊎ (fault_status refused ≡ 7)
+refused_held : (e : Exchange) (request : RunWords) (refused : TopFault)
+    → RunFault e.held e.read_faults e.read_faults_now request refused → (held : Held) → e.held ≡ Some held
+    → (Rose e.read_faults e.read_faults_now → ⊥) → AllowsRun held request
+    → (fault_status refused ≡ 0) ⊎ (fault_status refused ≡ 7)
 refused_held e request refused cause held told calm allows =
     let P : Option Held → Type 0 = λ h. RunFault h e.read_faults e.read_faults_now request refused in
     elim (as_decided held e.read_faults e.read_faults_now request refused calm (subst P told cause)) [
@@ -47,20 +57,26 @@ refused_held e request refused cause held told calm allows =
     ]
 
 -- no run is refused for a bundle that breaks a rule
-no_bundle : (told : Option Held) (before now : ℕ) (request : RunWords) (name : List ℕ) (rule : BRule) → RunFault told before now request (BadBundle name rule) → ⊥
+no_bundle : (told : Option Held) (before now : ℕ) (request : RunWords) (name : List ℕ) (rule : BRule)
+    → RunFault told before now request (BadBundle name rule) → ⊥
 no_bundle (Some held) before now request name rule cause = cause
 no_bundle None before now request name rule cause = cause
 
-script_at_three : (e : Exchange) (request : RunWords) (fault : TopFault) → RefusesRun e request fault → fault_status fault ≡ 3 → (name : List ℕ) × (RefusesRun e request (ScriptTooLong name) ⊎ ((found : ScriptFault) × RefusesRun e request (Script name found)))
+script_at_three : (e : Exchange) (request : RunWords) (fault : TopFault) → RefusesRun e request fault
+    → fault_status fault ≡ 3
+    → (name : List ℕ) × (RefusesRun e request (ScriptTooLong name) ⊎ ((found : ScriptFault)
+        × RefusesRun e request (Script name found)))
 script_at_three e request fault refuses is =
     elim (at_three (RefusesRun e request) fault refuses is) [
       | inl (name, long) ↦ (name, inl long)
       | inr (inl (name, (found, faulty))) ↦ (name, inr (found, faulty))
-      | inr (inr (name, (rule, bad))) ↦ absurd (no_bundle e.held e.read_faults e.read_faults_now request name rule bad.0)
+      | inr (inr (name, (rule, bad))) ↦ absurd
+          (no_bundle e.held e.read_faults e.read_faults_now request name rule bad.0)
     ]
 
 -- how a request ends gives what its status says
-pub answers_of : (e : Exchange) (request : RunWords) (ending : Ending) → Ends e request ending → RunAnswers e request (ending_status ending)
+pub answers_of : (e : Exchange) (request : RunWords) (ending : Ending) → EndsRun e request ending
+    → RunAnswers e request (ending_status ending)
 answers_of e request Done (text, is, written) = record {
   statuses = inl refl;
   done = λ _. (text, is, written);

@@ -1,15 +1,18 @@
 -- A setup with one script is sound.
 use Rattle.std.proofs.Common.{◌≡◌, ◌*◌, ◌≤◌, [], ◌∷◌, length, All, arith}
 use Rattle.std.proofs.lemmas.List.Elements.{All-nil, All-cons}
+use Rattle.soc_base.specs.declared.limits.TheConstants.{LAST_CYCLE, MOST_COMMANDS}
 use Rattle.bundle_model.specs.World.{IsSoundCatalog}
 use Rattle.script_file.specs.declared.command.Script.{Script}
 use Rattle.vep_manager.specs.declared.setup.Setup.{Setup}
-use Rattle.vep_manager.specs.Setup.{IsSound, stated_cycle, last_cycle}
+use Rattle.vep_manager.specs.Setup.{IsSound, stated_cycle}
 
 abbrev InTime : Script → Type 0
-InTime script = All (λ command. stated_cycle command ≤ last_cycle) script.commands
+InTime script = All (λ command. stated_cycle command ≤ LAST_CYCLE) script.commands
 
-pub sound_setup : (setup : Setup) (script : Script) → IsSoundCatalog setup.world → setup.scripts ≡ script ∷ [] → length script.commands ≤ 256 → All (λ command. stated_cycle command ≤ last_cycle) script.commands → setup.budget * setup.world.platform.slot_cycles ≤ last_cycle → IsSound setup
+pub sound_setup : (setup : Setup) (script : Script) → IsSoundCatalog setup.world → setup.scripts ≡ script ∷ []
+    → length script.commands ≤ MOST_COMMANDS → All (λ command. stated_cycle command ≤ LAST_CYCLE) script.commands
+    → setup.budget * setup.world.platform.slot_cycles ≤ LAST_CYCLE → IsSound setup
 sound_setup setup script catalog one few cycles budget = record {
   catalog = catalog;
   some_script = rw one (omega arith);

@@ -7,7 +7,8 @@ use Rattle.soc_top.specs.declared.fault.TopFault.{TopFault}
 use Rattle.soc_top.specs.declared.fault.TopFault.TheVariants.{Platform as BadPlatform, ScriptTooLong, Script, Bundle as BadBundle, Absent, Read, NoMemory}
 use Rattle.soc_top.specs.Faults.{fault_status}
 
-pub at_two : (P : TopFault → Type 0) (fault : TopFault) → P fault → fault_status fault ≡ 2 → (rule : PRule) × P (BadPlatform rule)
+pub at_two : (P : TopFault → Type 0) (fault : TopFault) → P fault → fault_status fault ≡ 2
+    → (rule : PRule) × P (BadPlatform rule)
 at_two P (BadPlatform rule) here is = (rule, here)
 at_two P (ScriptTooLong name) here is = absurd (omega (arith, is))
 at_two P (Script name found) here is = absurd (omega (arith, is))
@@ -19,7 +20,8 @@ at_two P NoMemory here is = absurd (omega (arith, is))
 abbrev pub IsThree : (TopFault → Type 0) → Type 0
 IsThree P =
     ((name : List ℕ) × P (ScriptTooLong name))
-    ⊎ (((name : List ℕ) × ((found : ScriptFault) × P (Script name found))) ⊎ ((name : List ℕ) × ((rule : BRule) × P (BadBundle name rule))))
+    ⊎ (((name : List ℕ) × ((found : ScriptFault) × P (Script name found))) ⊎ ((name : List ℕ)
+        × ((rule : BRule) × P (BadBundle name rule))))
 
 pub at_three : (P : TopFault → Type 0) (fault : TopFault) → P fault → fault_status fault ≡ 3 → IsThree P
 at_three P (BadPlatform rule) here is = absurd (omega (arith, is))
@@ -30,7 +32,8 @@ at_three P (Absent name) here is = absurd (omega (arith, is))
 at_three P (Read name) here is = absurd (omega (arith, is))
 at_three P NoMemory here is = absurd (omega (arith, is))
 
-pub at_four : (P : TopFault → Type 0) (fault : TopFault) → P fault → fault_status fault ≡ 4 → (name : List ℕ) × P (Absent name)
+pub at_four : (P : TopFault → Type 0) (fault : TopFault) → P fault → fault_status fault ≡ 4
+    → (name : List ℕ) × P (Absent name)
 at_four P (BadPlatform rule) here is = absurd (omega (arith, is))
 at_four P (ScriptTooLong name) here is = absurd (omega (arith, is))
 at_four P (Script name found) here is = absurd (omega (arith, is))
@@ -39,7 +42,8 @@ at_four P (Absent name) here is = (name, here)
 at_four P (Read name) here is = absurd (omega (arith, is))
 at_four P NoMemory here is = absurd (omega (arith, is))
 
-pub at_five : (P : TopFault → Type 0) (fault : TopFault) → P fault → fault_status fault ≡ 5 → (name : List ℕ) × P (Read name)
+pub at_five : (P : TopFault → Type 0) (fault : TopFault) → P fault → fault_status fault ≡ 5
+    → (name : List ℕ) × P (Read name)
 at_five P (BadPlatform rule) here is = absurd (omega (arith, is))
 at_five P (ScriptTooLong name) here is = absurd (omega (arith, is))
 at_five P (Script name found) here is = absurd (omega (arith, is))

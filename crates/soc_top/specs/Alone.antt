@@ -19,6 +19,8 @@ use Rattle.soc_top.specs.declared.inputs.Inputs.{Inputs}
 use Rattle.soc_top.specs.declared.ending.Ending.{Ending}
 use Rattle.soc_top.specs.declared.ending.Ending.TheVariants.{Done, Unwritten, Refused}
 use Rattle.soc_top.specs.Files.{HoldsPlatform, BreaksPlatform, HoldsBundle, BreaksBundle}
+use Rattle.soc_top.specs.declared.request.Request.TheVariants.{Alone}
+use Rattle.soc_top.specs.Request.{asked_of}
 use Rattle.soc_top.specs.Exchange.{Exchange, Says}
 use Rattle.soc_top.specs.Faults.{fault_line, fault_status, ending_status}
 
@@ -26,7 +28,8 @@ use Rattle.soc_top.specs.Faults.{fault_line, fault_status, ending_status}
 -- was read. The file of this name is read, since no event before refuses the request.
 abbrev pub IsReached : Held → AloneWords → List ℕ → Type 0
 IsReached held request name =
-    (name ≡ request.platform) ⊎ ((name ≡ request.bundle) × ((platform : Platform) × HoldsPlatform held request.platform platform))
+    (name ≡ request.platform) ⊎ ((name ≡ request.bundle)
+        × ((platform : Platform) × HoldsPlatform held request.platform platform))
 
 -- Where files are told, the request is refused by the first event that refuses it, and this is why.
 abbrev pub ToldCause : Held → ℕ → ℕ → AloneWords → TopFault → Type 0
@@ -34,7 +37,9 @@ ToldCause held before now request (BadPlatform rule) = BreaksPlatform held reque
 ToldCause held before now request (ScriptTooLong name) = ⊥
 ToldCause held before now request (Script name fault) = ⊥
 ToldCause held before now request (BadBundle name rule) =
-    (name ≡ request.bundle) × ((platform : Platform) × HoldsPlatform held request.platform platform × BreaksBundle platform held name rule)
+    (name ≡ request.bundle)
+        × ((platform : Platform) × HoldsPlatform held request.platform platform
+        × BreaksBundle platform held name rule)
 ToldCause held before now request (Absent name) = IsReached held request name × (held_at held name ≡ None)
 ToldCause held before now request (Read name) = IsReached held request name × Rose before now
 ToldCause held before now request NoMemory = Unit {0}
@@ -53,6 +58,7 @@ UntoldCause before now request (Absent name) = IsNamed request name × Rose befo
 UntoldCause before now request (Read name) = IsNamed request name × Rose before now
 UntoldCause before now request NoMemory = Unit {0}
 
+-- why a request is refused
 abbrev pub Cause : Option Held → ℕ → ℕ → AloneWords → TopFault → Type 0
 Cause (Some held) before now request fault = ToldCause held before now request fault
 Cause None before now request fault = UntoldCause before now request fault
@@ -71,6 +77,7 @@ IsDecided held request fault = ToldCause held 0 0 request fault
 abbrev pub first_slot : Platform → AloneWords → ℕ
 first_slot platform request = slot_up_of request.start platform.slot_cycles
 
+-- the slot to which it is followed
 abbrev pub last_slot : Platform → AloneWords → ℕ
 last_slot platform request = max (first_slot platform request) (slot_up_of request.budget platform.slot_cycles)
 
@@ -78,8 +85,10 @@ last_slot platform request = max (first_slot platform request) (slot_up_of reque
 pub record IsAloneText (platform : Platform) (bundle : Bundle) (request : AloneWords) (text : List ℕ) : Type 0 where
   pub trace : AppTrace
   pub is_trace : IsTraceOf (alone_at platform bundle (first_slot platform request) (last_slot platform request)) trace
-  pub is_text : text ≡ alone_text platform.slot_cycles request.bundle trace (first_slot platform request) (last_slot platform request)
+  pub is_text : text ≡ alone_text platform.slot_cycles request.bundle trace (first_slot platform request)
+      (last_slot platform request)
 
+-- where files are told, the text is that of the trace by what they hold
 abbrev pub AloneText : Held → AloneWords → List ℕ → Type 0
 AloneText held request text =
     (platform : Platform) × (bundle : Bundle) × HoldsPlatform held request.platform platform
@@ -88,9 +97,11 @@ AloneText held request text =
 -- how the run of a request ends, once its files gave a platform and a bundle: its text is written, or
 -- memory was wanted
 abbrev pub Runs : Option (List ℕ) → ℕ → Option (List ℕ) → ℕ → Inputs → AloneWords → Ending → Type 0
-Runs old before new now inputs request Done = (text : List ℕ) × IsAloneText inputs.platform inputs.bundle request text × Appends old text new
+Runs old before new now inputs request Done =
+    (text : List ℕ) × IsAloneText inputs.platform inputs.bundle request text × Appends old text new
 Runs old before new now inputs request Unwritten =
-    (text : List ℕ) × IsAloneText inputs.platform inputs.bundle request text × AppendsFront old text new × Rose before now
+    (text : List ℕ) × IsAloneText inputs.platform inputs.bundle request text × AppendsFront old text new
+        × Rose before now
 Runs old before new now inputs request (Refused fault) =
     (fault ≡ NoMemory) × ((failed : Bool) × Printed (fault_line fault) old before new now failed)
 
@@ -103,7 +114,8 @@ TextOf None request text = Unit {0}
 abbrev pub Ends : Exchange → AloneWords → Ending → Type 0
 Ends e request Done = (text : List ℕ) × TextOf e.held request text × Appends e.written text e.written_now
 Ends e request Unwritten =
-    (text : List ℕ) × TextOf e.held request text × AppendsFront e.written text e.written_now × Rose e.write_faults e.write_faults_now
+    (text : List ℕ) × TextOf e.held request text × AppendsFront e.written text e.written_now
+        × Rose e.write_faults e.write_faults_now
 Ends e request (Refused fault) = Refuses e request fault
 
 -- how the request may end with a status
@@ -124,6 +136,15 @@ pub record AloneAnswers (e : Exchange) (request : AloneWords) (status : ℕ) : T
   -- 7: want of memory
   pub memory : status ≡ 7 → Refuses e request NoMemory
   -- what the files refuse is refused, where no read fails
-  pub decided : (held : Held) (fault : TopFault) → e.held ≡ Some held → (Rose e.read_faults e.read_faults_now → ⊥) → IsDecided held request fault → (status ≡ fault_status fault) ⊎ (status ≡ 7)
+  pub decided : (held : Held) (fault : TopFault) → e.held ≡ Some held → (Rose e.read_faults e.read_faults_now → ⊥)
+      → IsDecided held request fault → (status ≡ fault_status fault) ⊎ (status ≡ 7)
   -- and what they allow is done, where no write fails either
-  pub complete : (held : Held) (platform : Platform) (bundle : Bundle) → e.held ≡ Some held → (Rose e.read_faults e.read_faults_now → ⊥) → (Rose e.write_faults e.write_faults_now → ⊥) → HoldsPlatform held request.platform platform → HoldsBundle platform held request.bundle bundle → (status ≡ 0) ⊎ (status ≡ 7)
+  pub complete : (held : Held) (platform : Platform) (bundle : Bundle) → e.held ≡ Some held
+      → (Rose e.read_faults e.read_faults_now → ⊥) → (Rose e.write_faults e.write_faults_now → ⊥)
+      → HoldsPlatform held request.platform platform → HoldsBundle platform held request.bundle bundle
+      → (status ≡ 0) ⊎ (status ≡ 7)
+
+-- a status is what a request for one application may end with, where the words ask for one
+abbrev pub AnswersAlone : Exchange → List (List ℕ) → ℕ → Type 0
+AnswersAlone e words status =
+    (request : AloneWords) → asked_of words ≡ Some (Alone request) → AloneAnswers e request status

@@ -1,21 +1,15 @@
 -- Why a request is refused, as a line and a status.
 use Rattle.std.specs.Prelude.{ℕ, List, ◌++◌, codes, decimal}
-use Rattle.script_file.specs.declared.rules.SRule.{SRule}
-use Rattle.script_file.specs.declared.rules.SRule.TheVariants.{S1, S2, S3}
+use Rattle.script_file.specs.Words.{script_rule_text}
 use Rattle.script_file.specs.declared.rules.ScriptFault.{ScriptFault}
 use Rattle.script_file.specs.declared.rules.ScriptFault.TheVariants.{Line, TooMany, NoMemory as NoScriptMemory}
 use Rattle.report_text.specs.Rows.{line_end}
-use Rattle.report_text.specs.Commands.{bundle_rule_text}
+use Rattle.bundle_model.specs.Words.{bundle_rule_text}
 use Rattle.soc_top.specs.declared.fault.TopFault.{TopFault}
 use Rattle.soc_top.specs.declared.fault.TopFault.TheVariants.{Platform, ScriptTooLong, Script, Bundle, Absent, Read, NoMemory}
 use Rattle.soc_top.specs.declared.ending.Ending.{Ending}
 use Rattle.soc_top.specs.declared.ending.Ending.TheVariants.{Done, Unwritten, Refused}
-use Rattle.soc_top.specs.Lines.{platform_rule_text}
-
-abbrev pub script_rule_text : SRule → List ℕ
-script_rule_text S1 = codes "S1"
-script_rule_text S2 = codes "S2"
-script_rule_text S3 = codes "S3"
+use Rattle.platform_model.specs.Words.{platform_rule_text}
 
 -- what is wrong with a script, as in ` line 3 S1`. No refusal names want of memory as a fault of a script.
 abbrev pub script_fault_text : ScriptFault → List ℕ
@@ -48,3 +42,7 @@ abbrev pub ending_status : Ending → ℕ
 ending_status Done = 0
 ending_status Unwritten = 6
 ending_status (Refused fault) = fault_status fault
+
+-- what is printed where the words ask for nothing
+abbrev pub usage_line : List ℕ
+usage_line = codes "compsoc: usage\n"

@@ -10,7 +10,8 @@ use Rattle.soc_io.specs.Reading.{Held, held_at}
 
 -- the file of this name gives the platform
 abbrev pub HoldsPlatform : Held → List ℕ → Platform → Type 0
-HoldsPlatform held name platform = (bytes : List ℕ) × (held_at held name ≡ Some bytes) × platforms.Gives bytes platform
+HoldsPlatform held name platform =
+    (bytes : List ℕ) × (held_at held name ≡ Some bytes) × platforms.Gives bytes platform
 
 -- this is the least rule of platform files that the file of this name breaks
 abbrev pub BreaksPlatform : Held → List ℕ → PRule → Type 0
@@ -18,8 +19,10 @@ BreaksPlatform held name rule = (bytes : List ℕ) × (held_at held name ≡ Som
 
 -- the file of this name gives the bundle, for the platform
 abbrev pub HoldsBundle : Platform → Held → List ℕ → Bundle → Type 0
-HoldsBundle platform held name bundle = (bytes : List ℕ) × (held_at held name ≡ Some bytes) × bundles.Gives platform bytes bundle
+HoldsBundle platform held name bundle =
+    (bytes : List ℕ) × (held_at held name ≡ Some bytes) × bundles.Gives platform bytes bundle
 
 -- this is the least rule of bundle files that the file of this name breaks, for the platform
 abbrev pub BreaksBundle : Platform → Held → List ℕ → BRule → Type 0
-BreaksBundle platform held name rule = (bytes : List ℕ) × (held_at held name ≡ Some bytes) × bundles.Breaks platform bytes rule
+BreaksBundle platform held name rule =
+    (bytes : List ℕ) × (held_at held name ≡ Some bytes) × bundles.Breaks platform bytes rule

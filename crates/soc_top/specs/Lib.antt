@@ -1,11 +1,8 @@
 pub mod Request
 pub mod Files
-pub mod Lines
 pub mod Exchange
 pub mod Alone
-pub mod Inputs
 pub mod Faults
 pub mod Setups
-pub mod Loading
-pub mod Naming
 pub mod Run
+pub mod inner

@@ -1,51 +1,59 @@
 -- What the words of a command line ask for.
-use Rattle.std.specs.Prelude.{ℕ, ◌≤◌, ◌&&◌, ◌==◌, List, [], codes, length, unwrap_or, slice_get, if◌then◌else◌, Option, Some, None, Result, Ok, Err}
+use Rattle.std.specs.Prelude.{ℕ, ◌≤◌, ◌&&◌, ◌==◌, List, codes, length, unwrap_or, slice_get, if◌then◌else◌, Option, Some, None, Result, Ok, Err}
 use Rattle.std.specs.Str.{bytes_eq}
+use Rattle.soc_base.specs.declared.limits.TheConstants.{LAST_STATED_CYCLE}
 use Rattle.soc_base.specs.declared.number.NumFault.{NumFault}
 use Rattle.soc_base.specs.Text.{number_read}
+use Rattle.script_file.specs.Commands.{word_at}
 use Rattle.soc_top.specs.declared.request.AloneWords.{AloneWords}
 use Rattle.soc_top.specs.declared.request.RunWords.{RunWords}
 use Rattle.soc_top.specs.declared.request.Request.{Request}
 use Rattle.soc_top.specs.declared.request.Request.TheVariants.{Alone, Run}
 
--- the greatest cycle that words may state
-abbrev pub cycle_limit : ℕ
-cycle_limit = 1000000000000
-
--- the n-th word, counted from 0
-abbrev pub word_at : List (List ℕ) → ℕ → List ℕ
-word_at words n = unwrap_or (slice_get words n) []
-
+-- the cycle that a word states
 abbrev pub cycles_of : List ℕ → Result ℕ NumFault
-cycles_of word = number_read word cycle_limit
+cycles_of word = number_read word LAST_STATED_CYCLE
 
+-- the `alone` of these words, where both cycles could be read
 abbrev pub alone_of : List ℕ → List ℕ → Result ℕ NumFault → Result ℕ NumFault → Option Request
-alone_of platform bundle (Ok start) (Ok budget) = Some (Alone (record { platform = platform; bundle = bundle; start = start; budget = budget }))
+alone_of platform bundle (Ok start) (Ok budget) =
+    Some (Alone (record { platform = platform; bundle = bundle; start = start; budget = budget }))
 alone_of platform bundle (Ok start) (Err fault) = None
 alone_of platform bundle (Err fault) budget = None
 
+-- the `run` of these words, where the cycle could be read
 abbrev pub run_of : List ℕ → Result ℕ NumFault → List ℕ → Option Request
 run_of platform (Ok budget) script = Some (Run (record { platform = platform; budget = budget; script = script }))
 run_of platform (Err fault) script = None
 
+-- what five words ask for of which the first is `alone`
+abbrev pub alone_asked : List (List ℕ) → Option Request
+alone_asked words = alone_of (word_at words 1) (word_at words 2) (cycles_of (word_at words 3))
+    (cycles_of (word_at words 4))
+
+-- what four words ask for of which the first is `run`
+abbrev pub run_asked : List (List ℕ) → Option Request
+run_asked words = run_of (word_at words 1) (cycles_of (word_at words 2)) (word_at words 3)
+
 -- what the words ask for, if they are those of a command: `alone PLATFORM BUNDLE START BUDGET` or
 -- `run PLATFORM BUDGET SCRIPT`
-unfoldable pub request_of : List (List ℕ) → Option Request
-request_of words =
+unfoldable pub asked_of : List (List ℕ) → Option Request
+asked_of words =
     if length words == 5 && bytes_eq (word_at words 0) (codes "alone")
-    then alone_of (word_at words 1) (word_at words 2) (cycles_of (word_at words 3)) (cycles_of (word_at words 4))
+    then alone_asked words
     else (if length words == 4 && bytes_eq (word_at words 0) (codes "run")
-    then run_of (word_at words 1) (cycles_of (word_at words 2)) (word_at words 3)
+    then run_asked words
     else None)
 
 -- a request that words can ask for
 abbrev pub IsInForm : AloneWords → Type 0
-IsInForm request = (request.start ≤ cycle_limit) × (request.budget ≤ cycle_limit)
+IsInForm request = (request.start ≤ LAST_STATED_CYCLE) × (request.budget ≤ LAST_STATED_CYCLE)
 
 -- likewise a request to run
 abbrev pub IsRunInForm : RunWords → Type 0
-IsRunInForm request = request.budget ≤ cycle_limit
+IsRunInForm request = request.budget ≤ LAST_STATED_CYCLE
 
+-- whichever of the two it is
 abbrev pub AreInForm : Request → Type 0
 AreInForm (Alone request) = IsInForm request
 AreInForm (Run request) = IsRunInForm request

@@ -14,6 +14,8 @@ use Rattle.soc_top.specs.declared.fault.TopFault.{TopFault}
 use Rattle.soc_top.specs.declared.fault.TopFault.TheVariants.{Platform, ScriptTooLong, Script, Absent, Read, NoMemory}
 use Rattle.soc_top.specs.declared.ending.Ending.{Ending}
 use Rattle.soc_top.specs.declared.ending.Ending.TheVariants.{Done, Unwritten, Refused}
+use Rattle.soc_top.specs.declared.request.Request.TheVariants.{Run}
+use Rattle.soc_top.specs.Request.{asked_of}
 use Rattle.soc_top.specs.Exchange.{Exchange, Says}
 use Rattle.soc_top.specs.Faults.{fault_line, fault_status}
 use Rattle.soc_top.specs.Setups.{GivesSetup, RunFault, IsDecidedFault, AllowsRun}
@@ -35,16 +37,18 @@ RefusesRun e request fault = RunFault e.held e.read_faults e.read_faults_now req
 -- how the report of a setup is written, or that memory was wanted
 abbrev pub Reports : Option (List ℕ) → ℕ → Option (List ℕ) → ℕ → Setup → Ending → Type 0
 Reports old before new now setup Done = (text : List ℕ) × IsReportOf setup text × Appends old text new
-Reports old before new now setup Unwritten = (text : List ℕ) × IsReportOf setup text × AppendsFront old text new × Rose before now
+Reports old before new now setup Unwritten =
+    (text : List ℕ) × IsReportOf setup text × AppendsFront old text new × Rose before now
 Reports old before new now setup (Refused fault) =
     (fault ≡ NoMemory) × ((failed : Bool) × Printed (fault_line fault) old before new now failed)
 
 -- how the request may end: its report is written, or a front of it where a write failed, or it is refused
-abbrev pub Ends : Exchange → RunWords → Ending → Type 0
-Ends e request Done = (text : List ℕ) × ReportOf e.held request text × Appends e.written text e.written_now
-Ends e request Unwritten =
-    (text : List ℕ) × ReportOf e.held request text × AppendsFront e.written text e.written_now × Rose e.write_faults e.write_faults_now
-Ends e request (Refused fault) = RefusesRun e request fault
+abbrev pub EndsRun : Exchange → RunWords → Ending → Type 0
+EndsRun e request Done = (text : List ℕ) × ReportOf e.held request text × Appends e.written text e.written_now
+EndsRun e request Unwritten =
+    (text : List ℕ) × ReportOf e.held request text × AppendsFront e.written text e.written_now
+        × Rose e.write_faults e.write_faults_now
+EndsRun e request (Refused fault) = RefusesRun e request fault
 
 -- how the request may end with a status
 pub record RunAnswers (e : Exchange) (request : RunWords) (status : ℕ) : Type 0 where
@@ -55,7 +59,9 @@ pub record RunAnswers (e : Exchange) (request : RunWords) (status : ℕ) : Type 
   -- 2: the platform file breaks this rule
   pub platform : status ≡ 2 → (rule : PRule) × RefusesRun e request (Platform rule)
   -- 3: the script is too long or has this fault
-  pub script : status ≡ 3 → (name : List ℕ) × (RefusesRun e request (ScriptTooLong name) ⊎ ((fault : ScriptFault) × RefusesRun e request (Script name fault)))
+  pub script : status ≡ 3
+      → (name : List ℕ) × (RefusesRun e request (ScriptTooLong name) ⊎ ((fault : ScriptFault)
+          × RefusesRun e request (Script name fault)))
   -- 4: a file isn't there; 5: a file could not be read
   pub absent : status ≡ 4 → (name : List ℕ) × RefusesRun e request (Absent name)
   pub unread : status ≡ 5 → (name : List ℕ) × RefusesRun e request (Read name)
@@ -65,6 +71,12 @@ pub record RunAnswers (e : Exchange) (request : RunWords) (status : ℕ) : Type 
   -- 7: want of memory
   pub memory : status ≡ 7 → RefusesRun e request NoMemory
   -- what the files refuse is refused, where no read fails
-  pub decided : (held : Held) (fault : TopFault) → e.held ≡ Some held → (Rose e.read_faults e.read_faults_now → ⊥) → IsDecidedFault held request fault → (status ≡ fault_status fault) ⊎ (status ≡ 7)
+  pub decided : (held : Held) (fault : TopFault) → e.held ≡ Some held → (Rose e.read_faults e.read_faults_now → ⊥)
+      → IsDecidedFault held request fault → (status ≡ fault_status fault) ⊎ (status ≡ 7)
   -- and what they allow is done, where no write fails either
-  pub complete : (held : Held) → e.held ≡ Some held → (Rose e.read_faults e.read_faults_now → ⊥) → (Rose e.write_faults e.write_faults_now → ⊥) → AllowsRun held request → (status ≡ 0) ⊎ (status ≡ 7)
+  pub complete : (held : Held) → e.held ≡ Some held → (Rose e.read_faults e.read_faults_now → ⊥)
+      → (Rose e.write_faults e.write_faults_now → ⊥) → AllowsRun held request → (status ≡ 0) ⊎ (status ≡ 7)
+
+-- a status is what a request to run may end with, where the words ask for one
+abbrev pub AnswersRun : Exchange → List (List ℕ) → ℕ → Type 0
+AnswersRun e words status = (request : RunWords) → asked_of words ≡ Some (Run request) → RunAnswers e request status

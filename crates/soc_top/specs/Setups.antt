@@ -1,8 +1,9 @@
 -- The setup that the files of a `run` give, and why there is none.
 use Rattle.std.specs.Prelude.{◌≡◌, ℕ, ◌<◌, ◌≤◌, ◌⊎◌, List, [], ◌∷◌, ◌++◌, length, map, fold, if◌then◌else◌, All, IsSome, Option, Some, None, Result, Ok, Err}
+use Rattle.soc_base.specs.declared.limits.TheConstants.{MOST_COMMANDS, MOST_FILE_BYTES}
 use Rattle.soc_base.specs.Time.{slot_up_of}
 use Rattle.soc_io.specs.Counts.{Rose}
-use Rattle.soc_io.specs.Reading.{Held, held_at, file_limit}
+use Rattle.soc_io.specs.Reading.{Held, held_at}
 use Rattle.platform_model.specs.declared.platform.Platform.{Platform}
 use Rattle.bundle_model.specs.declared.bundle.Bundle.{Bundle}
 use Rattle.bundle_model.specs.declared.rules.BRule.{BRule}
@@ -18,29 +19,28 @@ use Rattle.soc_top.specs.declared.fault.TopFault.{TopFault}
 use Rattle.soc_top.specs.declared.fault.TopFault.TheVariants.{Platform as BadPlatform, ScriptTooLong, Script, Bundle as BadBundle, Absent, Read, NoMemory}
 use Rattle.soc_top.specs.Files.{HoldsPlatform, BreaksPlatform, HoldsBundle, BreaksBundle}
 
--- the most commands that the scripts of a run have in all
-abbrev pub command_limit : ℕ
-command_limit = 256
-
 -- the file of this name is a script of these commands
 abbrev pub HoldsScript : Held → List ℕ → List Command → Type 0
 HoldsScript held name commands =
-    (bytes : List ℕ) × (held_at held name ≡ Some bytes) × (length bytes ≤ file_limit) × (script_meant bytes command_limit ≡ Ok commands)
+    (bytes : List ℕ) × (held_at held name ≡ Some bytes) × (length bytes ≤ MOST_FILE_BYTES)
+        × (script_meant bytes MOST_COMMANDS ≡ Ok commands)
 
 -- the file of this name has this as its first fault as a script
 abbrev pub FaultsScript : Held → List ℕ → ScriptFault → Type 0
 FaultsScript held name fault =
-    (bytes : List ℕ) × (held_at held name ≡ Some bytes) × (length bytes ≤ file_limit) × (script_meant bytes command_limit ≡ Err fault)
+    (bytes : List ℕ) × (held_at held name ≡ Some bytes) × (length bytes ≤ MOST_FILE_BYTES)
+        × (script_meant bytes MOST_COMMANDS ≡ Err fault)
 
 -- the file of this name is longer than files may be
 abbrev pub IsLong : Held → List ℕ → Type 0
-IsLong held name = (bytes : List ℕ) × (held_at held name ≡ Some bytes) × (file_limit < length bytes)
+IsLong held name = (bytes : List ℕ) × (held_at held name ≡ Some bytes) × (MOST_FILE_BYTES < length bytes)
 
 -- the bundle that the file of this name gives for the platform, or the least rule that it breaks
 abbrev pub JudgesFile : Platform → Held → List ℕ → Result Bundle BRule → Type 0
 JudgesFile platform held name (Ok bundle) = HoldsBundle platform held name bundle
 JudgesFile platform held name (Err rule) = BreaksBundle platform held name rule
 
+-- the names with one more, unless it is among them
 abbrev pub with_name : List (List ℕ) → List ℕ → List (List ℕ)
 with_name known name = if names known name then known else known ++ name ∷ []
 
@@ -72,20 +72,25 @@ abbrev pub ReachesBundle : Held → RunWords → List ℕ → Type 0
 ReachesBundle held request name =
     HasPlatform held request
     × ((commands : List Command) × HoldsScript held request.script commands
-    × ((before : List (List ℕ)) × ((after : List (List ℕ)) × (bundle_names commands ≡ before ++ name ∷ after) × All (λ earlier. IsSome (held_at held earlier)) before)))
+    × ((before : List (List ℕ))
+        × ((after : List (List ℕ)) × (bundle_names commands ≡ before ++ name ∷ after)
+        × All (λ earlier. IsSome (held_at held earlier)) before)))
 
 -- The files of a request are read in this order: the platform, the script, and each bundle in the order
 -- of its first naming; the platform and the script are judged when they were read. The file of this name
 -- is read, since no event before refuses the request.
 abbrev pub IsReached : Held → RunWords → List ℕ → Type 0
 IsReached held request name =
-    (name ≡ request.platform) ⊎ (((name ≡ request.script) × HasPlatform held request) ⊎ ReachesBundle held request name)
+    (name ≡ request.platform) ⊎
+        (((name ≡ request.script) × HasPlatform held request) ⊎ ReachesBundle held request name)
 
 -- Where files are told, the request is refused by the first event that refuses it, and this is why.
 abbrev pub ToldFault : Held → ℕ → ℕ → RunWords → TopFault → Type 0
 ToldFault held before now request (BadPlatform rule) = BreaksPlatform held request.platform rule
-ToldFault held before now request (ScriptTooLong name) = (name ≡ request.script) × HasPlatform held request × IsLong held name
-ToldFault held before now request (Script name fault) = (name ≡ request.script) × HasPlatform held request × FaultsScript held name fault
+ToldFault held before now request (ScriptTooLong name) =
+    (name ≡ request.script) × HasPlatform held request × IsLong held name
+ToldFault held before now request (Script name fault) =
+    (name ≡ request.script) × HasPlatform held request × FaultsScript held name fault
 ToldFault held before now request (BadBundle name rule) = ⊥
 ToldFault held before now request (Absent name) = IsReached held request name × (held_at held name ≡ None)
 ToldFault held before now request (Read name) = IsReached held request name × Rose before now
@@ -108,6 +113,7 @@ UntoldFault before now request (Absent name) = Rose before now
 UntoldFault before now request (Read name) = Rose before now
 UntoldFault before now request NoMemory = Unit {0}
 
+-- why the request is refused, whether files are told or not
 abbrev pub RunFault : Option Held → ℕ → ℕ → RunWords → TopFault → Type 0
 RunFault (Some held) before now request fault = ToldFault held before now request fault
 RunFault None before now request fault = UntoldFault before now request fault
@@ -128,4 +134,5 @@ IsDecidedFault held request fault = ToldFault held 0 0 request fault
 abbrev pub AllowsRun : Held → RunWords → Type 0
 AllowsRun held request =
     HasPlatform held request
-    × ((commands : List Command) × HoldsScript held request.script commands × All (λ name. IsSome (held_at held name)) (bundle_names commands))
+    × ((commands : List Command) × HoldsScript held request.script commands
+        × All (λ name. IsSome (held_at held name)) (bundle_names commands))

@@ -13,7 +13,7 @@ use crate::request::AloneWords;
 use alone_model::alone;
 use platform_model::Platform;
 use report_text::write_trace;
-use soc_base::slot_up;
+use soc_base::{LAST_CYCLE, slot_up};
 use soc_io::{Files, Sink};
 use std::alloc::Global;
 
@@ -23,7 +23,7 @@ fn span(platform: &Platform, request: &AloneWords) -> (u64, u64)
     ensures first { result.0 ≡ first_slot platform.now request.now }
     ensures last { result.1 ≡ last_slot platform.now request.now }
     ensures ordered { result.0 ≤ result.1 }
-    ensures bounded { result.1 * platform.now.slot_cycles ≤ 1000000000063 }
+    ensures bounded { result.1 * platform.now.slot_cycles ≤ LAST_CYCLE }
 {
     let start = slot_up(request.start, platform.slot_cycles);
     let end = start.max(slot_up(request.budget, platform.slot_cycles));
@@ -63,7 +63,7 @@ fn end<F: Files, S: Sink>(
     sink: &mut S,
 ) -> Ending
     requires { IsInForm request.now }
-    ensures { Ends (exchanged (F.holds files.old) (F.faults files.old) (F.faults files.new) (S.written sink.old) (S.written sink.new) (S.faults sink.old) (S.faults sink.new)) request.now result }
+    ensures { Ends (exchanged F.holds F.faults S.written S.faults files.old files.new sink.old sink.new) request.now result }
 {
     match load(alloc, request, files) {
         Ok(inputs) => run(alloc, request, &inputs, sink),
@@ -84,7 +84,7 @@ pub fn alone_call<F: Files, S: Sink>(
     sink: &mut S,
 ) -> u8
     requires { IsInForm request.now }
-    ensures { AloneAnswers (exchanged (F.holds files.old) (F.faults files.old) (F.faults files.new) (S.written sink.old) (S.written sink.new) (S.faults sink.old) (S.faults sink.new)) request.now result }
+    ensures { AloneAnswers (exchanged F.holds F.faults S.written S.faults files.old files.new sink.old sink.new) request.now result }
 {
     code(&end(alloc, request, files, sink))
 }

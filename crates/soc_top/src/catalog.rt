@@ -1,11 +1,10 @@
 //! The bundle files that a script names, each read once.
 
-ghost use Rattle.std.specs.Prelude.{◌≡◌, ◌≤◌, ◌++◌, ◌∷◌, [], All, IfOk, IfErr, OnOk};
+ghost use Rattle.std.specs.Prelude.{◌≡◌, ◌≤◌, ◌++◌, ◌∷◌, [], IfOk, IfErr, OnOk};
 ghost use Rattle.bundle_model.specs.Sets.{names};
-ghost use Rattle.bundle_model.specs.WellFormed.{IsWellFormed};
 ghost use Rattle.soc_top.specs.Setups.{with_name, bundle_names};
-ghost use Rattle.soc_top.specs.Loading.{Misses};
-ghost use Rattle.soc_top.specs.Naming.{with_command, catalog_names, LacksCatalog, IsJudged};
+ghost use Rattle.soc_top.specs.inner.Loading.{Misses};
+ghost use Rattle.soc_top.specs.inner.Naming.{with_command, catalog_names, AreWellFormed, LacksCatalog, IsJudged, KeepsJudged};
 
 use crate::fault::TopFault;
 use crate::file::load_bundle;
@@ -39,7 +38,7 @@ fn add_named(alloc: Global, known: &mut Vec<Text>, command: &Command) -> Result<
 {
     match command {
         Command::Load { name, .. } => add_name(alloc, known, name),
-        _ => Ok(()),
+        Command::Stop { .. } | Command::Until { .. } => Ok(()),
     }
 }
 
@@ -58,25 +57,19 @@ pub fn bundle_names(alloc: Global, script: &Script) -> Result<Vec<Text>, NoMemor
 fn add_bundle<F: Files>(
     alloc: Global,
     platform: &Platform,
-    name: &Text,
+    name: Text,
     files: &mut F,
     catalog: &mut Vec<Named>,
 ) -> Result<(), TopFault>
     ensures same { F.holds files.new ≡ F.holds files.old }
     ensures counted { F.faults files.old ≤ F.faults files.new }
-    ensures names { OnOk result (catalog_names catalog.new.items ≡ catalog_names catalog.old.items ++ name.now ∷ []) }
-    ensures judged { OnOk result (IsJudged (F.holds files.old) platform.now catalog.old.items → IsJudged (F.holds files.old) platform.now catalog.new.items) }
-    ensures sound { OnOk result (All (λ named. IfOk named.judged (IsWellFormed platform.now)) catalog.old.items → All (λ named. IfOk named.judged (IsWellFormed platform.now)) catalog.new.items) }
-    ensures missed { IfErr result (Misses (F.holds files.old) (F.faults files.old) (F.faults files.new) name.now) }
+    ensures names { OnOk result (catalog_names catalog.new.items ≡ catalog_names catalog.old.items ++ name ∷ []) }
+    ensures judged { OnOk result (KeepsJudged (F.holds files.old) platform.now catalog.old.items catalog.new.items) }
+    ensures sound { OnOk result (AreWellFormed platform.now catalog.old.items → AreWellFormed platform.now catalog.new.items) }
+    ensures missed { IfErr result (Misses (F.holds files.old) (F.faults files.old) (F.faults files.new) name) }
 {
-    let judged = match load_bundle(alloc, platform, name, files) {
-        Ok(judged) => judged,
-        Err(fault) => return Err(fault),
-    };
-    let Ok(name) = Text::from_str(alloc, name.as_str()) else {
-        return Err(TopFault::NoMemory);
-    };
-    match catalog.push(Named { name, judged }) {
+    let named = load_bundle(alloc, platform, name, files)?;
+    match catalog.push(named) {
         Ok(()) => Ok(()),
         Err(_) => Err(TopFault::NoMemory),
     }
@@ -87,22 +80,19 @@ fn add_bundle<F: Files>(
 pub fn read_catalog<F: Files>(
     alloc: Global,
     platform: &Platform,
-    names: &[Text],
+    names: Vec<Text>,
     files: &mut F,
 ) -> Result<Vec<Named>, TopFault>
     ensures same { F.holds files.new ≡ F.holds files.old }
     ensures counted { F.faults files.old ≤ F.faults files.new }
-    ensures names { IfOk result (λ catalog. catalog_names catalog.items ≡ names.now) }
+    ensures names { IfOk result (λ catalog. catalog_names catalog.items ≡ names.items) }
     ensures judged { IfOk result (λ catalog. IsJudged (F.holds files.old) platform.now catalog.items) }
-    ensures sound { IfOk result (λ catalog. All (λ named. IfOk named.judged (IsWellFormed platform.now)) catalog.items) }
-    ensures lacks { IfErr result (LacksCatalog (F.holds files.old) (F.faults files.old) (F.faults files.new) names.now) }
+    ensures sound { IfOk result (λ catalog. AreWellFormed platform.now catalog.items) }
+    ensures lacks { IfErr result (LacksCatalog (F.holds files.old) (F.faults files.old) (F.faults files.new) names.items) }
 {
     let mut catalog = Vec::new(alloc);
     for name in names {
-        match add_bundle(alloc, platform, name, files, &mut catalog) {
-            Ok(()) => {}
-            Err(fault) => return Err(fault),
-        }
+        add_bundle(alloc, platform, name, files, &mut catalog)?;
     }
     Ok(catalog)
 }

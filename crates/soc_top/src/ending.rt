@@ -1,7 +1,7 @@
 //! How a request ends.
 
-ghost use Rattle.std.specs.Prelude.{◌≡◌, ◌≤◌, Bool};
-ghost use Rattle.soc_io.specs.Writing.{Printed};
+ghost use Rattle.std.specs.Prelude.{◌≡◌, ◌≤◌};
+ghost use Rattle.soc_top.specs.Exchange.{SaysText};
 ghost use Rattle.soc_top.specs.Faults.{fault_line, ending_status};
 
 use crate::fault::{TopFault, status, write_fault};
@@ -22,7 +22,7 @@ pub enum Ending {
 pub fn refuse<S: Sink>(fault: TopFault, sink: &mut S) -> Ending
     ensures refused { result ≡ Ending.Refused fault }
     ensures counted { S.faults sink.old ≤ S.faults sink.new }
-    ensures line { (failed : Bool) × Printed (fault_line fault) (S.written sink.old) (S.faults sink.old) (S.written sink.new) (S.faults sink.new) failed }
+    ensures line { SaysText S.written S.faults sink.old sink.new (fault_line fault) }
 {
     write_fault(&fault, sink);
     Ending::Refused(fault)

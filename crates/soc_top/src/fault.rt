@@ -1,17 +1,15 @@
 //! Why a request is refused, as a line and a status.
 
-ghost use Rattle.std.specs.Prelude.{◌≡◌, ◌+◌, ◌≤◌, ◌++◌, ℕ, Bool, List, Option, codes, length};
-ghost use Rattle.arrayvec.specs.ArrayString.{array_string_len};
-ghost use Rattle.soc_io.specs.Writing.{Printed};
+ghost use Rattle.std.specs.Prelude.{◌≡◌, ◌≤◌, ◌++◌, codes, length};
+ghost use Rattle.bundle_model.specs.Words.{bundle_rule_text};
 ghost use Rattle.report_text.specs.Rows.{line_end};
-ghost use Rattle.report_text.specs.Commands.{bundle_rule_text};
-ghost use Rattle.soc_top.specs.Lines.{platform_rule_text};
-ghost use Rattle.soc_top.specs.Faults.{script_rule_text, script_fault_text, fault_line, fault_status};
+ghost use Rattle.soc_top.specs.Exchange.{SaysText};
+ghost use Rattle.soc_top.specs.Faults.{script_fault_text, fault_line, fault_status};
 
 use bundle_model::BRule;
 use platform_model::PRule;
-use script_file::{SRule, ScriptFault};
-use soc_base::{Line, Text, push_number};
+use script_file::ScriptFault;
+use soc_base::{Line, NoMemory, Text, push_number};
 use soc_io::{Printer, Sink};
 
 /// Why a request is refused. Names are those of files, as the request gave them.
@@ -33,58 +31,14 @@ pub enum TopFault {
     NoMemory,
 }
 
-// The name of a rule of platform files.
-fn platform_rule(rule: PRule) -> &'static str
-    ensures { result.now ≡ platform_rule_text rule }
-{
-    match rule {
-        PRule::P1 => "P1",
-        PRule::P2 => "P2",
-        PRule::P3 => "P3",
-        PRule::P4 => "P4",
-        PRule::P5 => "P5",
-        PRule::P6 => "P6",
-        PRule::P7 => "P7",
-        PRule::P8 => "P8",
-        PRule::P9 => "P9",
-        PRule::P10 => "P10",
-        PRule::P11 => "P11",
-        PRule::P12 => "P12",
-    }
-}
+impl From<NoMemory> for TopFault {
+    ghost use Rattle.std.specs.Prelude.{◌≡◌};
+    ghost use Rattle.soc_top.specs.declared.fault.TopFault.TheVariants.{NoMemory as Unheld};
 
-// The name of a rule of scripts.
-fn script_rule(rule: SRule) -> &'static str
-    ensures text { result.now ≡ script_rule_text rule }
-    ensures short { length result.now ≤ 2 }
-{
-    match rule {
-        SRule::S1 => "S1",
-        SRule::S2 => "S2",
-        SRule::S3 => "S3",
-    }
-}
+    ghost from_gives = { λ _ fault. fault ≡ Unheld };
 
-// The name of a rule of bundle files.
-fn bundle_rule(rule: BRule) -> &'static str
-    ensures text { result.now ≡ bundle_rule_text rule }
-    ensures short { length result.now ≤ 3 }
-{
-    match rule {
-        BRule::B1 => "B1",
-        BRule::B2 => "B2",
-        BRule::B3 => "B3",
-        BRule::B4 => "B4",
-        BRule::B5 => "B5",
-        BRule::B6 => "B6",
-        BRule::B7 => "B7",
-        BRule::B8 => "B8",
-        BRule::B9 => "B9",
-        BRule::B10 => "B10",
-        BRule::B11 => "B11",
-        BRule::B12 => "B12",
-        BRule::B13 => "B13",
-        BRule::B14 => "B14",
+    fn from(_none: NoMemory) -> TopFault {
+        TopFault::NoMemory
     }
 }
 
@@ -98,7 +52,7 @@ fn script_back(fault: ScriptFault) -> Line
             line.push_str(" line ");
             push_number(&mut line, u64::from(number));
             line.push_str(" ");
-            line.push_str(script_rule(rule));
+            line.push_str(rule.word());
             line.push_str("\n");
         }
         ScriptFault::TooMany => line.push_str(" too many\n"),
@@ -113,7 +67,7 @@ fn bundle_back(rule: BRule) -> Line
 {
     let mut line = Line::new();
     line.push_str(" ");
-    line.push_str(bundle_rule(rule));
+    line.push_str(rule.word());
     line.push_str("\n");
     line
 }
@@ -135,7 +89,7 @@ fn pieces(fault: &TopFault) -> (&str, &str, Line)
     ensures { result.0.now ++ result.1.now ++ result.2.bytes ≡ fault_line fault.entry.now }
 {
     match fault {
-        TopFault::Platform(rule) => ("compsoc: platform ", platform_rule(*rule), text_back("")),
+        TopFault::Platform(rule) => ("compsoc: platform ", rule.word(), text_back("")),
         TopFault::ScriptTooLong(name) => {
             ("compsoc: script ", name.as_str(), text_back(" too long"))
         }
@@ -165,7 +119,7 @@ pub fn status(fault: &TopFault) -> u8
 /// Writes the line of a fault, or a front of it where a write fails.
 pub fn write_fault<S: Sink>(fault: &TopFault, sink: &mut S)
     ensures counted { S.faults sink.old ≤ S.faults sink.new }
-    ensures line { (failed : Bool) × Printed (fault_line fault.now) (S.written sink.old) (S.faults sink.old) (S.written sink.new) (S.faults sink.new) failed }
+    ensures line { SaysText S.written S.faults sink.old sink.new (fault_line fault.now) }
 {
     let (front, name, back) = pieces(fault);
     let mut printer = Printer::new(sink);

@@ -1,32 +1,34 @@
 //! Reading and judging one file of a request.
 
 ghost use Rattle.std.specs.Prelude.{◌≡◌, ◌≤◌, length, All, IfOk};
-ghost use Rattle.soc_io.specs.Reading.{file_limit};
 ghost use Rattle.bundle_model.specs.WellFormed.{IsWellFormed};
-ghost use Rattle.vep_manager.specs.Setup.{stated_cycle, last_cycle};
-ghost use Rattle.soc_top.specs.Setups.{command_limit};
-ghost use Rattle.soc_top.specs.Loading.{ReadsFile, ReadsPlatform, JudgesScript, ReadsScript, ReadsBundle};
+ghost use Rattle.vep_manager.specs.Setup.{stated_cycle};
+ghost use Rattle.soc_top.specs.inner.Loading.{ReadsFile, ReadsPlatform, JudgesScript, ReadsScript, ReadsBundle};
 
 use crate::fault::TopFault;
 use bundle_file::read_bundle;
-use bundle_model::{BRule, Bundle, BundleFault};
+use bundle_model::{BRule, BundleFault, Named};
 use platform_file::read_platform;
 use platform_model::{PRule, Platform, PlatformFault};
 use script_file::{Script, ScriptFault, read_script};
-use soc_base::{Items, Text};
+use soc_base::{Items, LAST_CYCLE, MOST_COMMANDS, MOST_FILE_BYTES, NoMemory, Text};
 use soc_io::{Files, FilesFault};
 use std::alloc::Global;
-
-/// The most commands that the scripts of a run have in all.
-const COMMAND_LIMIT: u16 = 256;
 
 /// What was read of a file.
 #[derive(Debug, Drop)]
 pub enum Content {
-    /// Its bytes, of which there are at most 4,194,304.
+    /// Its bytes, of which there are at most `MOST_FILE_BYTES`.
     Whole(Items<u8>),
     /// The file is longer.
     TooLong,
+}
+
+/// Copies the name of a file.
+pub fn copied(alloc: Global, name: &Text) -> Result<Text, NoMemory>
+    ensures { IfOk result (λ copy. copy ≡ name.now) }
+{
+    Ok(Text::from_str(alloc, name.as_str())?)
 }
 
 /// Reads a file. Refuses where it is absent or not read.
@@ -38,15 +40,9 @@ pub fn read_file<F: Files>(alloc: Global, name: &Text, files: &mut F) -> Result<
     let mut bytes = Vec::new(alloc);
     match files.read(alloc, name.as_str(), &mut bytes) {
         Ok(()) => Ok(Content::Whole(Items::from_vec(bytes))),
-        Err(FilesFault::Absent) => match Text::from_str(alloc, name.as_str()) {
-            Ok(name) => Err(TopFault::Absent(name)),
-            Err(_) => Err(TopFault::NoMemory),
-        },
+        Err(FilesFault::Absent) => Err(TopFault::Absent(copied(alloc, name)?)),
         Err(FilesFault::TooLong) => Ok(Content::TooLong),
-        Err(FilesFault::Failed) => match Text::from_str(alloc, name.as_str()) {
-            Ok(name) => Err(TopFault::Read(name)),
-            Err(_) => Err(TopFault::NoMemory),
-        },
+        Err(FilesFault::Failed) => Err(TopFault::Read(copied(alloc, name)?)),
         Err(FilesFault::NoMemory) => Err(TopFault::NoMemory),
     }
 }
@@ -62,32 +58,28 @@ pub fn load_platform<F: Files>(
     ensures counted { F.faults files.old ≤ F.faults files.new }
     ensures reads { ReadsPlatform (F.holds files.old) (F.faults files.old) (F.faults files.new) name.now result }
 {
-    match read_file(alloc, name, files) {
-        Ok(Content::Whole(bytes)) => match read_platform(alloc, bytes.as_slice()) {
+    match read_file(alloc, name, files)? {
+        Content::Whole(bytes) => match read_platform(alloc, bytes.as_slice()) {
             Ok(platform) => Ok(platform),
             Err(PlatformFault::Rule(rule)) => Err(TopFault::Platform(rule)),
             Err(PlatformFault::NoMemory) => Err(TopFault::NoMemory),
         },
-        Ok(Content::TooLong) => Err(TopFault::Platform(PRule::P1)),
-        Err(fault) => Err(fault),
+        Content::TooLong => Err(TopFault::Platform(PRule::P1)),
     }
 }
 
 // Judges the bytes of a script of a name.
 #[tactic(auto, using(crate::proofs::Scripts::few_meant, crate::proofs::Scripts::cycles_meant))]
 fn judge_script(alloc: Global, name: &Text, bytes: &[u8]) -> Result<Script, TopFault>
-    requires { length bytes.now ≤ file_limit }
+    requires { length bytes.now ≤ MOST_FILE_BYTES }
     ensures judges { JudgesScript name.now bytes.now result }
-    ensures few { IfOk result (λ script. length script.commands ≤ command_limit) }
-    ensures cycles { IfOk result (λ script. All (λ command. stated_cycle command ≤ last_cycle) script.commands) }
+    ensures few { IfOk result (λ script. length script.commands ≤ MOST_COMMANDS) }
+    ensures cycles { IfOk result (λ script. All (λ command. stated_cycle command ≤ LAST_CYCLE) script.commands) }
 {
-    match read_script(alloc, bytes, COMMAND_LIMIT) {
+    match read_script(alloc, bytes, MOST_COMMANDS) {
         Ok(script) => Ok(script),
         Err(ScriptFault::NoMemory) => Err(TopFault::NoMemory),
-        Err(fault) => match Text::from_str(alloc, name.as_str()) {
-            Ok(name) => Err(TopFault::Script(name, fault)),
-            Err(_) => Err(TopFault::NoMemory),
-        },
+        Err(fault) => Err(TopFault::Script(copied(alloc, name)?, fault)),
     }
 }
 
@@ -96,16 +88,12 @@ pub fn load_script<F: Files>(alloc: Global, name: &Text, files: &mut F) -> Resul
     ensures same { F.holds files.new ≡ F.holds files.old }
     ensures counted { F.faults files.old ≤ F.faults files.new }
     ensures reads { ReadsScript (F.holds files.old) (F.faults files.old) (F.faults files.new) name.now result }
-    ensures few { IfOk result (λ script. length script.commands ≤ command_limit) }
-    ensures cycles { IfOk result (λ script. All (λ command. stated_cycle command ≤ last_cycle) script.commands) }
+    ensures few { IfOk result (λ script. length script.commands ≤ MOST_COMMANDS) }
+    ensures cycles { IfOk result (λ script. All (λ command. stated_cycle command ≤ LAST_CYCLE) script.commands) }
 {
-    match read_file(alloc, name, files) {
-        Ok(Content::Whole(bytes)) => judge_script(alloc, name, bytes.as_slice()),
-        Ok(Content::TooLong) => match Text::from_str(alloc, name.as_str()) {
-            Ok(name) => Err(TopFault::ScriptTooLong(name)),
-            Err(_) => Err(TopFault::NoMemory),
-        },
-        Err(fault) => Err(fault),
+    match read_file(alloc, name, files)? {
+        Content::Whole(bytes) => judge_script(alloc, name, bytes.as_slice()),
+        Content::TooLong => Err(TopFault::ScriptTooLong(copied(alloc, name)?)),
     }
 }
 
@@ -114,21 +102,29 @@ pub fn load_script<F: Files>(alloc: Global, name: &Text, files: &mut F) -> Resul
 pub fn load_bundle<F: Files>(
     alloc: Global,
     platform: &Platform,
-    name: &Text,
+    name: Text,
     files: &mut F,
-) -> Result<Result<Bundle, BRule>, TopFault>
+) -> Result<Named, TopFault>
     ensures same { F.holds files.new ≡ F.holds files.old }
     ensures counted { F.faults files.old ≤ F.faults files.new }
-    ensures reads { ReadsBundle (F.holds files.old) (F.faults files.old) (F.faults files.new) platform.now name.now result }
-    ensures well_formed { IfOk result (λ judged. IfOk judged (IsWellFormed platform.now)) }
+    ensures reads { ReadsBundle (F.holds files.old) (F.faults files.old) (F.faults files.new) platform.now name result }
+    ensures well_formed { IfOk result (λ named. IfOk named.judged (IsWellFormed platform.now)) }
 {
-    match read_file(alloc, name, files) {
-        Ok(Content::Whole(bytes)) => match read_bundle(alloc, bytes.as_slice(), platform) {
-            Ok(bundle) => Ok(Ok(bundle)),
-            Err(BundleFault::Rule(rule)) => Ok(Err(rule)),
+    match read_file(alloc, &name, files)? {
+        Content::Whole(bytes) => match read_bundle(alloc, bytes.as_slice(), platform) {
+            Ok(bundle) => Ok(Named {
+                name,
+                judged: Ok(bundle),
+            }),
+            Err(BundleFault::Rule(rule)) => Ok(Named {
+                name,
+                judged: Err(rule),
+            }),
             Err(BundleFault::NoMemory) => Err(TopFault::NoMemory),
         },
-        Ok(Content::TooLong) => Ok(Err(BRule::B1)),
-        Err(fault) => Err(fault),
+        Content::TooLong => Ok(Named {
+            name,
+            judged: Err(BRule::B1),
+        }),
     }
 }

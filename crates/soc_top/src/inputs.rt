@@ -2,11 +2,11 @@
 
 ghost use Rattle.std.specs.Prelude.{◌≡◌, ◌≤◌, IfOk};
 ghost use Rattle.bundle_model.specs.WellFormed.{IsWellFormed};
-ghost use Rattle.soc_top.specs.Loading.{GetsBundle};
-ghost use Rattle.soc_top.specs.Inputs.{LoadsInputs};
+ghost use Rattle.soc_top.specs.inner.Loading.{GetsBundle};
+ghost use Rattle.soc_top.specs.inner.Inputs.{LoadsInputs};
 
 use crate::fault::TopFault;
-use crate::file::{load_bundle, load_platform};
+use crate::file::{copied, load_bundle, load_platform};
 use crate::request::AloneWords;
 use bundle_model::Bundle;
 use platform_model::Platform;
@@ -35,13 +35,10 @@ fn get_bundle<F: Files>(
     ensures gets { GetsBundle (F.holds files.old) (F.faults files.old) (F.faults files.new) platform.now name.now result }
     ensures well_formed { IfOk result (IsWellFormed platform.now) }
 {
-    match load_bundle(alloc, platform, name, files) {
-        Ok(Ok(bundle)) => Ok(bundle),
-        Ok(Err(rule)) => match Text::from_str(alloc, name.as_str()) {
-            Ok(name) => Err(TopFault::Bundle(name, rule)),
-            Err(_) => Err(TopFault::NoMemory),
-        },
-        Err(fault) => Err(fault),
+    let named = load_bundle(alloc, platform, copied(alloc, name)?, files)?;
+    match named.judged {
+        Ok(bundle) => Ok(bundle),
+        Err(rule) => Err(TopFault::Bundle(named.name, rule)),
     }
 }
 
@@ -56,12 +53,7 @@ pub fn load<F: Files>(
     ensures loads { LoadsInputs (F.holds files.old) (F.faults files.old) (F.faults files.new) request.now result }
     ensures well_formed { IfOk result (λ inputs. IsWellFormed inputs.platform inputs.bundle) }
 {
-    let platform = match load_platform(alloc, &request.platform, files) {
-        Ok(platform) => platform,
-        Err(fault) => return Err(fault),
-    };
-    match get_bundle(alloc, &platform, &request.bundle, files) {
-        Ok(bundle) => Ok(Inputs { platform, bundle }),
-        Err(fault) => Err(fault),
-    }
+    let platform = load_platform(alloc, &request.platform, files)?;
+    let bundle = get_bundle(alloc, &platform, &request.bundle, files)?;
+    Ok(Inputs { platform, bundle })
 }

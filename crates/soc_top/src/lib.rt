@@ -3,8 +3,8 @@
 //!
 //! `specs/Request` says what words ask for, `specs/Files` what the named files hold, `specs/Alone` in
 //! which order an `alone` is decided, and what it writes, `specs/Setups` and `specs/Run` the same of a
-//! `run`, and `specs/Faults` the lines and statuses of refusals. `specs/Loading`, `specs/Inputs` and
-//! `specs/Naming` are steps between them.
+//! `run`, and `specs/Faults` the lines and statuses of refusals. `specs/inner` has what only clauses of
+//! private functions cite.
 #![tactic(auto)]
 
 /// The command `alone`.

@@ -1,9 +1,9 @@
 //! What a command line asks for.
 
-ghost use Rattle.std.specs.Prelude.{◌≡◌, ◌≢◌, ◌≤◌, ◌↔◌, None, IfOk, length};
-ghost use Rattle.soc_top.specs.Request.{word_at, cycles_of, alone_of, run_of, request_of, AreInForm};
+ghost use Rattle.std.specs.Prelude.{◌≡◌, ◌≢◌, ◌≤◌, ◌↔◌, None, Some, Ok, IfOk, length};
+ghost use Rattle.soc_top.specs.Request.{alone_of, alone_asked, run_of, run_asked, asked_of, AreInForm};
 
-use soc_base::{Text, Words, read_number};
+use soc_base::{LAST_STATED_CYCLE, Text, Words, read_number};
 use std::alloc::Global;
 use thiserror::Error;
 
@@ -52,16 +52,13 @@ pub enum WordsFault {
     NoMemory,
 }
 
-/// The greatest cycle that words may state.
-const LAST_CYCLE: u64 = 1_000_000_000_000;
-
 /// Reads what words ask for: `alone PLATFORM BUNDLE START BUDGET` or `run PLATFORM BUDGET SCRIPT`, the
 /// cycles in decimal digits. Refuses with `Usage` exactly where the words aren't of one of these forms
 /// or a cycle is above 1,000,000,000,000.
-#[tactic(auto, unfolding(crate::specs::Request::request_of))]
+#[tactic(auto, unfolding(crate::specs::Request::asked_of))]
 pub fn read_words(alloc: Global, words: &Words) -> Result<Request, WordsFault>
-    ensures usage { (result ≡ Err WordsFault.Usage) ↔ (request_of words.now ≡ None) }
-    ensures request { IfOk result (λ request. request_of words.now ≡ Some request) }
+    ensures usage { (result ≡ Err WordsFault.Usage) ↔ (asked_of words.now ≡ None) }
+    ensures request { IfOk result (λ request. asked_of words.now ≡ Some request) }
     ensures in_form { IfOk result AreInForm }
 {
     if words.len() == 5 && words.word(0) == "alone" {
@@ -76,13 +73,13 @@ pub fn read_words(alloc: Global, words: &Words) -> Result<Request, WordsFault>
 // Reads the words of an `alone`.
 fn read_alone(alloc: Global, words: &Words) -> Result<Request, WordsFault>
     requires { 5 ≤ length words.now }
-    ensures usage { (result ≡ Err WordsFault.Usage) ↔ (alone_of (word_at words.now 1) (word_at words.now 2) (cycles_of (word_at words.now 3)) (cycles_of (word_at words.now 4)) ≡ None) }
-    ensures request { IfOk result (λ request. alone_of (word_at words.now 1) (word_at words.now 2) (cycles_of (word_at words.now 3)) (cycles_of (word_at words.now 4)) ≡ Some request) }
+    ensures usage { (result ≡ Err WordsFault.Usage) ↔ (alone_asked words.now ≡ None) }
+    ensures request { IfOk result (λ request. alone_asked words.now ≡ Some request) }
     ensures in_form { IfOk result AreInForm }
 {
     let (Ok(start), Ok(budget)) = (
-        read_number(words.word(3).as_bytes(), LAST_CYCLE),
-        read_number(words.word(4).as_bytes(), LAST_CYCLE),
+        read_number(words.word(3).as_bytes(), LAST_STATED_CYCLE),
+        read_number(words.word(4).as_bytes(), LAST_STATED_CYCLE),
     ) else {
         return Err(WordsFault::Usage);
     };
@@ -92,11 +89,11 @@ fn read_alone(alloc: Global, words: &Words) -> Result<Request, WordsFault>
 // Reads the words of a `run`.
 fn read_run(alloc: Global, words: &Words) -> Result<Request, WordsFault>
     requires { 4 ≤ length words.now }
-    ensures usage { (result ≡ Err WordsFault.Usage) ↔ (run_of (word_at words.now 1) (cycles_of (word_at words.now 2)) (word_at words.now 3) ≡ None) }
-    ensures request { IfOk result (λ request. run_of (word_at words.now 1) (cycles_of (word_at words.now 2)) (word_at words.now 3) ≡ Some request) }
+    ensures usage { (result ≡ Err WordsFault.Usage) ↔ (run_asked words.now ≡ None) }
+    ensures request { IfOk result (λ request. run_asked words.now ≡ Some request) }
     ensures in_form { IfOk result AreInForm }
 {
-    let Ok(budget) = read_number(words.word(2).as_bytes(), LAST_CYCLE) else {
+    let Ok(budget) = read_number(words.word(2).as_bytes(), LAST_STATED_CYCLE) else {
         return Err(WordsFault::Usage);
     };
     run_words(alloc, words.word(1), budget, words.word(3))
@@ -111,7 +108,7 @@ fn alone_words(
     budget: u64,
 ) -> Result<Request, WordsFault>
     ensures refused { result ≢ Err WordsFault.Usage }
-    ensures request { IfOk result (λ request. request ≡ Request.Alone (record { platform = platform.now; bundle = bundle.now; start = start; budget = budget })) }
+    ensures request { IfOk result (λ request. alone_of platform.now bundle.now (Ok start) (Ok budget) ≡ Some request) }
 {
     let (Ok(platform), Ok(bundle)) = (
         Text::from_str(alloc, platform),
@@ -135,7 +132,7 @@ fn run_words(
     script: &str,
 ) -> Result<Request, WordsFault>
     ensures refused { result ≢ Err WordsFault.Usage }
-    ensures request { IfOk result (λ request. request ≡ Request.Run (record { platform = platform.now; budget = budget; script = script.now })) }
+    ensures request { IfOk result (λ request. run_of platform.now (Ok budget) script.now ≡ Some request) }
 {
     let (Ok(platform), Ok(script)) = (
         Text::from_str(alloc, platform),

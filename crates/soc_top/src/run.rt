@@ -4,7 +4,7 @@ ghost use Rattle.std.specs.Prelude.{◌≡◌, ◌≤◌};
 ghost use Rattle.vep_manager.specs.Setup.{IsSound};
 ghost use Rattle.soc_top.specs.Request.{IsRunInForm};
 ghost use Rattle.soc_top.specs.Exchange.{exchanged};
-ghost use Rattle.soc_top.specs.Run.{Reports, Ends, RunAnswers};
+ghost use Rattle.soc_top.specs.Run.{Reports, EndsRun, RunAnswers};
 
 use crate::ending::{Ending, code, refuse};
 use crate::fault::TopFault;
@@ -38,7 +38,7 @@ fn report<S: Sink>(alloc: Global, setup: &Setup, sink: &mut S) -> Ending
 #[tactic(auto, using(crate::proofs::Joined::reported))]
 fn end<F: Files, S: Sink>(alloc: Global, request: &RunWords, files: &mut F, sink: &mut S) -> Ending
     requires { IsRunInForm request.now }
-    ensures { Ends (exchanged (F.holds files.old) (F.faults files.old) (F.faults files.new) (S.written sink.old) (S.written sink.new) (S.faults sink.old) (S.faults sink.new)) request.now result }
+    ensures { EndsRun (exchanged F.holds F.faults S.written S.faults files.old files.new sink.old sink.new) request.now result }
 {
     match read_setup(alloc, request, files) {
         Ok(setup) => report(alloc, &setup, sink),
@@ -59,7 +59,7 @@ pub fn serial_call<F: Files, S: Sink>(
     sink: &mut S,
 ) -> u8
     requires { IsRunInForm request.now }
-    ensures { RunAnswers (exchanged (F.holds files.old) (F.faults files.old) (F.faults files.new) (S.written sink.old) (S.written sink.new) (S.faults sink.old) (S.faults sink.new)) request.now result }
+    ensures { RunAnswers (exchanged F.holds F.faults S.written S.faults files.old files.new sink.old sink.new) request.now result }
 {
     code(&end(alloc, request, files, sink))
 }

@@ -2,11 +2,10 @@
 
 ghost use Rattle.std.specs.Prelude.{◌≡◌, ◌*◌, ◌≤◌, ◌∷◌, [], length, All, IfOk, IfErr};
 ghost use Rattle.soc_base.specs.Time.{slot_up_of};
-ghost use Rattle.bundle_model.specs.WellFormed.{IsWellFormed};
-ghost use Rattle.vep_manager.specs.Setup.{IsSound, stated_cycle, last_cycle};
-ghost use Rattle.soc_top.specs.Request.{IsRunInForm, cycle_limit};
-ghost use Rattle.soc_top.specs.Setups.{command_limit, bundle_names, LoadsSetup};
-ghost use Rattle.soc_top.specs.Naming.{catalog_names, IsJudged, LacksCatalog};
+ghost use Rattle.vep_manager.specs.Setup.{IsSound, stated_cycle};
+ghost use Rattle.soc_top.specs.Request.{IsRunInForm};
+ghost use Rattle.soc_top.specs.Setups.{bundle_names, LoadsSetup};
+ghost use Rattle.soc_top.specs.inner.Naming.{catalog_names, AreWellFormed, IsJudged, LacksCatalog};
 
 use crate::catalog::{bundle_names, read_catalog};
 use crate::fault::TopFault;
@@ -15,7 +14,7 @@ use crate::request::RunWords;
 use bundle_model::{Named, World};
 use platform_model::Platform;
 use script_file::Script;
-use soc_base::{Items, NoMemory, slot_up};
+use soc_base::{Items, LAST_CYCLE, LAST_STATED_CYCLE, MOST_COMMANDS, NoMemory, slot_up};
 use soc_io::Files;
 use std::alloc::Global;
 use vep_manager::{Setup, named_loads};
@@ -31,9 +30,9 @@ fn only(alloc: Global, script: Script) -> Result<Items<Script>, NoMemory>
 
 // The slot at which a run ends.
 fn end_slot(budget: u64, platform: &Platform) -> u64
-    requires { budget ≤ cycle_limit }
+    requires { budget ≤ LAST_STATED_CYCLE }
     ensures granted { result ≡ slot_up_of budget platform.now.slot_cycles }
-    ensures bounded { result * platform.now.slot_cycles ≤ last_cycle }
+    ensures bounded { result * platform.now.slot_cycles ≤ LAST_CYCLE }
 {
     slot_up(budget, platform.slot_cycles)
 }
@@ -47,10 +46,10 @@ fn setup_of(
     budget: u64,
 ) -> Result<Setup, NoMemory>
     requires names { catalog_names catalog.items ≡ bundle_names script.commands }
-    requires sound { All (λ named. IfOk named.judged (IsWellFormed platform)) catalog.items }
-    requires few { length script.commands ≤ command_limit }
-    requires cycles { All (λ command. stated_cycle command ≤ last_cycle) script.commands }
-    requires budget { budget ≤ cycle_limit }
+    requires sound { AreWellFormed platform catalog.items }
+    requires few { length script.commands ≤ MOST_COMMANDS }
+    requires cycles { All (λ command. stated_cycle command ≤ LAST_CYCLE) script.commands }
+    requires budget { budget ≤ LAST_STATED_CYCLE }
     ensures platform { IfOk result (λ setup. setup.world.platform ≡ platform) }
     ensures catalog { IfOk result (λ setup. setup.world.catalog ≡ catalog.items) }
     ensures scripts { IfOk result (λ setup. setup.scripts ≡ script ∷ []) }
@@ -81,13 +80,11 @@ fn catalog_of<F: Files>(
     ensures counted { F.faults files.old ≤ F.faults files.new }
     ensures names { IfOk result (λ catalog. catalog_names catalog.items ≡ bundle_names script.now.commands) }
     ensures judged { IfOk result (λ catalog. IsJudged (F.holds files.old) platform.now catalog.items) }
-    ensures sound { IfOk result (λ catalog. All (λ named. IfOk named.judged (IsWellFormed platform.now)) catalog.items) }
+    ensures sound { IfOk result (λ catalog. AreWellFormed platform.now catalog.items) }
     ensures lacks { IfErr result (LacksCatalog (F.holds files.old) (F.faults files.old) (F.faults files.new) (bundle_names script.now.commands)) }
 {
-    match bundle_names(alloc, script) {
-        Ok(names) => read_catalog(alloc, platform, names.as_slice(), files),
-        Err(NoMemory) => Err(TopFault::NoMemory),
-    }
+    let names = bundle_names(alloc, script)?;
+    read_catalog(alloc, platform, names, files)
 }
 
 /// Reads and judges the files of a request, in this order: the platform, the script, and each
@@ -105,20 +102,9 @@ pub fn read_setup<F: Files>(
     ensures loads { LoadsSetup (F.holds files.old) (F.faults files.old) (F.faults files.new) request.now result }
     ensures sound { IfOk result IsSound }
 {
-    let platform = match load_platform(alloc, &request.platform, files) {
-        Ok(platform) => platform,
-        Err(fault) => return Err(fault),
-    };
-    let script = match load_script(alloc, &request.script, files) {
-        Ok(script) => script,
-        Err(fault) => return Err(fault),
-    };
-    let catalog = match catalog_of(alloc, &platform, &script, files) {
-        Ok(catalog) => catalog,
-        Err(fault) => return Err(fault),
-    };
-    match setup_of(alloc, platform, catalog, script, request.budget) {
-        Ok(setup) => Ok(setup),
-        Err(NoMemory) => Err(TopFault::NoMemory),
-    }
+    let platform = load_platform(alloc, &request.platform, files)?;
+    let script = load_script(alloc, &request.script, files)?;
+    let catalog = catalog_of(alloc, &platform, &script, files)?;
+    let setup = setup_of(alloc, platform, catalog, script, request.budget)?;
+    Ok(setup)
 }

@@ -1,15 +1,11 @@
 //! The top call.
 
-ghost use Rattle.std.specs.Prelude.{◌≡◌, ◌↔◌, Bool, None, Some};
-ghost use Rattle.soc_io.specs.Writing.{Printed};
-ghost use Rattle.soc_top.specs.Request.{request_of};
-ghost use Rattle.soc_top.specs.Exchange.{exchanged, Says};
-ghost use Rattle.soc_top.specs.Lines.{usage_line};
-ghost use Rattle.soc_top.specs.Alone.{AloneAnswers};
-ghost use Rattle.soc_top.specs.Run.{RunAnswers};
-ghost use Rattle.soc_top.specs.declared.request.AloneWords.{AloneWords};
-ghost use Rattle.soc_top.specs.declared.request.RunWords.{RunWords};
-ghost use Rattle.soc_top.specs.declared.request.Request.TheVariants.{Alone, Run};
+ghost use Rattle.std.specs.Prelude.{◌≡◌, ◌↔◌, None};
+ghost use Rattle.soc_top.specs.Request.{asked_of};
+ghost use Rattle.soc_top.specs.Exchange.{exchanged, Says, SaysText};
+ghost use Rattle.soc_top.specs.Faults.{usage_line};
+ghost use Rattle.soc_top.specs.Alone.{AnswersAlone};
+ghost use Rattle.soc_top.specs.Run.{AnswersRun};
 
 use crate::alone::alone_call;
 use crate::fault::{TopFault, write_fault};
@@ -21,7 +17,7 @@ use std::alloc::Global;
 
 // Writes one line.
 fn say<S: Sink>(sink: &mut S, line: &str)
-    ensures { (failed : Bool) × Printed line.now (S.written sink.old) (S.faults sink.old) (S.written sink.new) (S.faults sink.new) failed }
+    ensures { SaysText S.written S.faults sink.old sink.new line.now }
 {
     let mut printer = Printer::new(sink);
     printer.put(line.as_bytes());
@@ -32,10 +28,10 @@ fn say<S: Sink>(sink: &mut S, line: &str)
 /// the program ends with: 0 where it is done, 1 where the words aren't those of a command, and else as
 /// the command's own call says (`alone_call`, `serial_call`). At 1 the line `compsoc: usage` was written.
 pub fn compsoc<F: Files, S: Sink>(alloc: Global, words: &Words, files: &mut F, sink: &mut S) -> u8
-    ensures usage { (result ≡ 1) ↔ (request_of words.now ≡ None) }
-    ensures usage_line { result ≡ 1 → Says (exchanged (F.holds files.old) (F.faults files.old) (F.faults files.new) (S.written sink.old) (S.written sink.new) (S.faults sink.old) (S.faults sink.new)) usage_line }
-    ensures alone { (request : AloneWords) → request_of words.now ≡ Some (Alone request) → AloneAnswers (exchanged (F.holds files.old) (F.faults files.old) (F.faults files.new) (S.written sink.old) (S.written sink.new) (S.faults sink.old) (S.faults sink.new)) request result }
-    ensures run { (request : RunWords) → request_of words.now ≡ Some (Run request) → RunAnswers (exchanged (F.holds files.old) (F.faults files.old) (F.faults files.new) (S.written sink.old) (S.written sink.new) (S.faults sink.old) (S.faults sink.new)) request result }
+    ensures usage { (result ≡ 1) ↔ (asked_of words.now ≡ None) }
+    ensures usage_line { result ≡ 1 → Says (exchanged F.holds F.faults S.written S.faults files.old files.new sink.old sink.new) usage_line }
+    ensures alone { AnswersAlone (exchanged F.holds F.faults S.written S.faults files.old files.new sink.old sink.new) words.now result }
+    ensures run { AnswersRun (exchanged F.holds F.faults S.written S.faults files.old files.new sink.old sink.new) words.now result }
 {
     match read_words(alloc, words) {
         Ok(Request::Alone(request)) => alone_call(alloc, &request, files, sink),

@@ -2,7 +2,7 @@
 use Rattle.std.proofs.Common.{◌≡◌, ℕ, ◌*◌, ◌≤◌, List, length}
 use Rattle.soc_base.specs.declared.region.Region.{Region}
 use Rattle.tile_memory.specs.Bytes.{IsInside, with_region, filled_bytes}
-use Rattle.tile_memory.proofs.Regions.{length-with_region, length-filled_bytes}
+use Rattle.tile_memory.proofs.Laws.{length-with_region, length-filled_bytes}
 
 pub filled_size : (memory new image : List ℕ) (region : Region) → IsInside memory region → 4 * length image ≤ region.len → new ≡ with_region memory region (filled_bytes region.len image) → length new ≡ length memory
 filled_size memory new image region inside fits is =

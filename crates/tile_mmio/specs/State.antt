@@ -3,17 +3,24 @@ use Rattle.std.specs.Prelude.{ℕ, ◌+◌, List, take, drop, length}
 use Rattle.std.specs.Borrow.{GName}
 use Rattle.soc_base.specs.declared.region.Region.{Region}
 use Rattle.tile_memory.specs.Bytes.{region_bytes}
+use Rattle.trace_log.specs.Log.{Log}
+use Rattle.part_model.specs.declared.record.Place.{Place}
 use Rattle.part_model.specs.Answers.{BusState}
 use Rattle.tile_mmio.specs.declared.part_bus.PartBus.{PartBus}
 
--- the bytes of the part's region, its log, its place and the cycle
+-- what the bus of a part holds in a cycle: the bytes of the part's region of a memory, and its log
+abbrev pub bus_on : List ℕ → Region → Log → Place → ℕ → BusState
+bus_on memory region log place cycle = record { bytes = region_bytes memory region; log = log; place = place; cycle = cycle }
+
+-- what a bus holds
 abbrev pub bus_state : PartBus → BusState
-bus_state b = record { bytes = region_bytes b.memory.now b.region; log = b.log.now; place = b.place; cycle = b.cycle }
+bus_state b = bus_on b.memory.now b.region b.log.now b.place b.cycle
 
 -- the whole memory that the region lies in
 abbrev pub bus_memory : PartBus → List ℕ
 bus_memory b = b.memory.now
 
+-- the part's region of it
 abbrev pub bus_region : PartBus → Region
 bus_region b = b.region
 

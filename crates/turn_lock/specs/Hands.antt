@@ -1,5 +1,5 @@
 -- Helpers of the proofs: what a pass is made of between its calls, and what a step asks of a thread's hand.
-use Rattle.std.specs.Prelude.{◌≡◌, ◌++◌, ◌<◌, ◌^◌, ℕ, List, [], ◌∷◌, length, Bool, true, false, Option, Some, None}
+use Rattle.std.specs.Prelude.{◌≡◌, ◌+◌, ◌++◌, ◌<◌, ◌^◌, ℕ, List, [], ◌∷◌, length, Bool, true, false, Option, Some, None}
 use Rattle.atomic_table.specs.Seated.{TableId}
 use Rattle.atomic_table.specs.Table.{Me}
 use Rattle.turn_lock.specs.declared.view.View.{View}
@@ -41,7 +41,24 @@ module _ {B E : Type 0} where
   IsBetween number Away me = me.1 ≡ []
   IsBetween number (Waits ticket) me = ⊥
   IsBetween number (Holds ticket entries false) me = ⊥
-  IsBetween number (Holds ticket entries true) me = (me.1 ≡ (0, None) ∷ []) × (number ≡ length me.0.seen) × (entries ≡ me.0.seen)
+  IsBetween number (Holds ticket entries true) me =
+      (me.1 ≡ (0, None) ∷ []) × (number ≡ length me.0.seen) × (entries ≡ me.0.seen)
+
+  -- the view once the value was taken, with these entries
+  abbrev pub taken_view : ℕ → List E → View B E → View B E
+  taken_view ticket entries view = record view { stage = Holds ticket entries false }
+
+  -- the view once a turn was entered, and these entries were found
+  abbrev pub entered_view : ℕ → List E → View B E → View B E
+  entered_view ticket entries view = record view {
+    seen = entries;
+    entered = view.entered + 1;
+    stage = Holds ticket entries true;
+  }
+
+  -- the view once its turn was left, with an entry more
+  abbrev pub left_view : List E → View B E → View B E
+  left_view entries view = record view { seen = entries; mine = view.mine + 1; stage = Away }
 
   module _ {V : Type 0} where
     -- no ticket and no slot is held
@@ -70,5 +87,6 @@ module _ {B E : Type 0} where
     -- the turn is held, and the slot with a value whose entries are those that were seen
     abbrev pub CanPassOn : Me (Option V) (View B E) → Type 0
     CanPassOn me =
-        (ticket : ℕ) × (entries : List E) × (value : V) × (me.1 ≡ (0, Some value) ∷ []) × (me.0.stage ≡ Holds ticket entries true)
+        (ticket : ℕ) × (entries : List E) × (value : V) × (me.1 ≡ (0, Some value) ∷ [])
+        × (me.0.stage ≡ Holds ticket entries true)
         × (base_of value ≡ base) × (entries_of value ≡ me.0.seen)

@@ -51,15 +51,20 @@ module _ {B E : Type 0} where
   TakenWith full view (Holds ticket entries true) = (view.seen ≡ full) × IsAtMostOneMore entries full
 
   -- what holds of one view, that of the seat `id`, where the full list, the line and `serving` are these
-  pub record Stands (base : B) (start : ℕ) (full : List E) (line : List ℕ) (serving : ℕ) (id : ℕ) (view : View B E) : Type 0 where
+  pub record Stands (base : B) (start : ℕ) (full : List E) (line : List ℕ) (serving : ℕ) (id : ℕ) (view : View B E)
+      : Type 0 where
     -- a view without a share was joined into another: it has nothing left
-    pub spent : view.share ≡ 0 → (view.base ≡ None) × (view.stage ≡ Away) × (view.seen ≡ []) × (view.mine ≡ 0)
+    pub spent : view.share ≡ 0
+        → (view.base ≡ None) × (view.stage ≡ Away) × (view.seen ≡ []) × (view.mine ≡ 0)
     -- every other view knows the base and the number of entries at first, and has seen a beginning of the full list
-    pub unspent : 0 < view.share → (view.base ≡ Some base) × (view.start ≡ start) × IsPrefix view.seen full × IsPrefix view.met full
+    pub unspent : 0 < view.share
+        → (view.base ≡ Some base) × (view.start ≡ start) × IsPrefix view.seen full × IsPrefix view.met full
     -- who stands at a place in line holds the ticket that is served after those before it, modulo 2^64
-    pub in_line : (place : ℕ) → get_elem? line place ≡ some id → HasTicket ((serving + place) % 2 ^ 64) view.stage
+    pub in_line : (place : ℕ) → get_elem? line place ≡ some id
+        → HasTicket ((serving + place) % 2 ^ 64) view.stage
     -- and whoever holds a ticket stands in line
-    pub only_in_line : (ticket : ℕ) → HasTicket ticket view.stage → (place : ℕ) × (get_elem? line place ≡ some id)
+    pub only_in_line : (ticket : ℕ) → HasTicket ticket view.stage
+        → (place : ℕ) × (get_elem? line place ≡ some id)
     -- whoever knows the turn to be its own is the first in line, so that its ticket is `serving`
     pub first_in_line : HasTurn view.stage → get_elem? line 0 ≡ some id
     -- what it knows of the entries, where it holds the value
@@ -86,16 +91,21 @@ module _ {B E : Type 0} where
       pub fits : length full < 2 ^ 64
       -- no seat stands in line twice, and each one that does has a view
       pub distinct : (i j id : ℕ) → get_elem? line i ≡ some id → get_elem? line j ≡ some id → i ≡ j
-      pub known : (i id : ℕ) → get_elem? line i ≡ some id → (view : View B E) × (get_elem? s.views id ≡ some view)
+      pub known : (i id : ℕ) → get_elem? line i ≡ some id
+          → (view : View B E) × (get_elem? s.views id ≡ some view)
       -- the entries at first and those that the views added are all the entries
       pub mine : start + total (λ view. view.mine) s.views ≡ length full
       -- the shares are the whole share
       pub shares : total (λ view. view.share) s.views ≡ whole_share
-      pub each : (id : ℕ) (view : View B E) → get_elem? s.views id ≡ some view → Stands base start full line (slice_index s.words 1) id view
+      pub each : (id : ℕ) (view : View B E) → get_elem? s.views id ≡ some view
+          → Stands base start full line (slice_index s.words 1) id view
       -- some view has seen the full list
-      pub longest : (id : ℕ) × (view : View B E) × (get_elem? s.views id ≡ some view) × (0 < view.share) × (view.seen ≡ full)
+      pub longest : (id : ℕ) × (view : View B E) × (get_elem? s.views id ≡ some view)
+          × (0 < view.share) × (view.seen ≡ full)
       -- where the value is home, it has the base and the full list
       pub home : (slot : Option V) → get_elem? s.homes 0 ≡ some (some slot) → IsHome base full slot
       -- it isn't home exactly where a view knows the turn to be its own
-      pub out : (id : ℕ) (view : View B E) → get_elem? s.views id ≡ some view → HasTurn view.stage → get_elem? s.homes 0 ≡ some none
-      pub held : get_elem? s.homes 0 ≡ some none → (id : ℕ) × (view : View B E) × (get_elem? s.views id ≡ some view) × HasTurn view.stage
+      pub out : (id : ℕ) (view : View B E) → get_elem? s.views id ≡ some view → HasTurn view.stage
+          → get_elem? s.homes 0 ≡ some none
+      pub held : get_elem? s.homes 0 ≡ some none
+          → (id : ℕ) × (view : View B E) × (get_elem? s.views id ≡ some view) × HasTurn view.stage

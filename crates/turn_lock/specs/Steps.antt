@@ -26,13 +26,17 @@ module _ {B E : Type 0} where
 
     -- `serving` was read: where it is the ticket, the value was taken; else nothing changed
     abbrev pub Looked : Me (Option V) (View B E) → ℕ → Me (Option V) (View B E) → Type 0
-    Looked v found w = (ticket : ℕ) → v.0.stage ≡ Waits ticket → (found ≡ ticket → Took v ticket w) × (found ≢ ticket → w ≡ v)
+    Looked v found w =
+        (ticket : ℕ) → v.0.stage ≡ Waits ticket
+        → (found ≡ ticket → Took v ticket w) × (found ≢ ticket → w ≡ v)
 
-  -- `count` was read after the value was taken: the entries that it was taken with are all there are, and are seen now
+  -- `count` was read after the value was taken: the entries that it was taken with are all there are, and are
+  -- seen now
   abbrev pub Learnt : {S : Type 0} → Me S (View B E) → ℕ → Me S (View B E) → Type 0
   Learnt v found w =
       (ticket : ℕ) (entries : List E) → v.0.stage ≡ Holds ticket entries false
-      → (w.1 ≡ v.1) × (found ≡ length entries) × (w.0 ≡ record v.0 { seen = entries; stage = Holds ticket entries true })
+      → (w.1 ≡ v.1) × (found ≡ length entries)
+      × (w.0 ≡ record v.0 { seen = entries; stage = Holds ticket entries true })
 
   module _ {V : Type 0} (base_of : V → B) (entries_of : V → List E) where
     -- one more entry was counted, that of the value that is held

@@ -5,7 +5,7 @@ ghost use Rattle.std.specs.Prelude.{◌≡◌, ℕ, ◌+◌, ◌<◌, ◌∷◌,
 ghost use Rattle.turn_lock.specs.Seen.{whole_share};
 ghost use Rattle.turn_lock.specs.Rule.{first_view};
 ghost use Rattle.turn_lock.specs.Steps.{Drew, Took, Learnt, Counted, kept_view, split_view, joined_view};
-ghost use Rattle.turn_lock.specs.Hands.{IsBoard, IsAt, IsAway, IsWaiting, HasTaken, IsInTurn, CanCount, CanPassOn};
+ghost use Rattle.turn_lock.specs.Hands.{IsAt, IsAway, IsWaiting, HasTaken, IsInTurn, CanCount, CanPassOn, taken_view, entered_view, left_view};
 
 use crate::kept::Kept;
 use crate::steps::{Board, Compares, Counts, Draws, Learns, Looks, Parts, PassesOn, Place};
@@ -96,7 +96,7 @@ impl<V: Kept + Drop> Line<V> {
         ensures at { hand.new.seat.table_id ≡ hand.old.seat.table_id }
         ensures base { hand.old.seat.me.0.base ≡ Some (V.base result) }
         ensures begins { IsPrefix hand.old.seat.me.0.seen (V.entries result) }
-        ensures view { hand.new.seat.me ≡ (record hand.old.seat.me.0 { stage = Stage.Holds ticket (V.entries result) false }, (0, None) ∷ []) }
+        ensures view { hand.new.seat.me ≡ (taken_view ticket (V.entries result) hand.old.seat.me.0, (0, None) ∷ []) }
     {
         for _ in rt.forever() {
             if self.look(hand, ticket) {
@@ -125,7 +125,7 @@ impl<V: Kept + Drop> Line<V> {
         ensures base { hand.old.seat.me.0.base ≡ Some (V.base result) }
         ensures begins { IsPrefix hand.old.seat.me.0.seen (V.entries result) }
         ensures held { hand.new.seat.me.1 ≡ (0, None) ∷ [] }
-        ensures view { (ticket : ℕ) × (hand.new.seat.me.0 ≡ record hand.old.seat.me.0 { seen = V.entries result; entered = hand.old.seat.me.0.entered + 1; stage = Stage.Holds ticket (V.entries result) true }) }
+        ensures view { (ticket : ℕ) × (hand.new.seat.me.0 ≡ entered_view ticket (V.entries result) hand.old.seat.me.0) }
     {
         let ticket = self.draw(hand);
         let value = self.wait(rt, hand, ticket);
@@ -161,7 +161,9 @@ impl<V: Kept + Drop> Line<V> {
         ensures at { hand.new.seat.table_id ≡ hand.old.seat.table_id }
         ensures passed { hand.new.seat.me ≡ (record hand.old.seat.me.0 { stage = Stage.Away }, []) }
     {
-        self.table.shared.fetch_add::<PassesOn>(&mut hand.seat, 1, 1);
+        self.table
+            .shared
+            .fetch_add::<PassesOn>(&mut hand.seat, 1, 1);
     }
 
     /// Leaves the turn with the entries that the value was taken with.
@@ -187,7 +189,7 @@ impl<V: Kept + Drop> Line<V> {
         requires entries { (entry : V.Entry) × (V.entries value ≡ hand.old.seat.me.0.seen ++ entry ∷ []) }
         requires fits { length (V.entries value) < 2 ^ 64 }
         ensures at { hand.new.seat.table_id ≡ hand.old.seat.table_id }
-        ensures left { hand.new.seat.me ≡ (record hand.old.seat.me.0 { seen = V.entries value; mine = hand.old.seat.me.0.mine + 1; stage = Stage.Away }, []) }
+        ensures left { hand.new.seat.me ≡ (left_view (V.entries value) hand.old.seat.me.0, []) }
     {
         self.put_back(hand, value);
         self.count_entry(hand);

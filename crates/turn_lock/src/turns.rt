@@ -25,7 +25,11 @@ impl<V: Kept> Model for Turns<V> {
 
     ghost Value = { LockView V.Base };
 
-    ghost view = { λ t. record { lock = t.line.table.shared.table_id; base = V.base t.line.table.shared.key.value; start = length (V.entries t.line.table.shared.key.value) } };
+    ghost view = { λ t. record {
+      lock = t.line.table.shared.table_id;
+      base = V.base t.line.table.shared.key.value;
+      start = length (V.entries t.line.table.shared.key.value);
+    } };
 
     ghost invariant = { λ t. IsBoard t.line.table.shared.table_id };
 }

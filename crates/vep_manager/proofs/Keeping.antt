@@ -5,89 +5,119 @@ use Rattle.std.specs.Prelude.{IsSome, IfSome}
 use Rattle.std.specs.List.{All}
 use Rattle.std.specs.Option.{option_to_list}
 use Rattle.std.proofs.lemmas.List.{length-map}
+use Rattle.soc_base.specs.declared.limits.TheConstants.{LAST_CYCLE, MOST_COMMANDS}
 use Rattle.bundle_model.specs.declared.world.Grant.{Grant}
 use Rattle.vep_manager.specs.declared.setup.Setup.{Setup}
 use Rattle.vep_manager.specs.declared.reply.Reply.{Reply}
 use Rattle.vep_manager.specs.declared.reply.Entry.{Entry}
-use Rattle.vep_manager.specs.Setup.{IsSound, last_cycle, command_count}
+use Rattle.vep_manager.specs.Setup.{IsSound, command_count}
 use Rattle.vep_manager.specs.History.{commands_of, count_of, grants_of, horizon_with, horizon_of}
 use Rattle.vep_manager.specs.Replies.{next_entry}
 use Rattle.vep_manager.specs.Legal.{IsLegal}
-use Rattle.vep_manager.specs.Claims.{HasSmallEnd}
+use Rattle.vep_manager.specs.inner.Claims.{HasSmallEnd}
 use Rattle.vep_manager.specs.Granted.{IsEarly}
-use Rattle.vep_manager.specs.Kept.{IsKept, counted, ended_by, opened_by}
-use Rattle.vep_manager.proofs.Standing.{Standing, standing, standing_more, legal_none, legal_more, grants_more, few_grants, few_entries}
+use Rattle.vep_manager.specs.Manager.{ManagerState}
+use Rattle.vep_manager.specs.inner.Keeping.{Known, IsKept, counted, ended_by, opened_by, grants_after}
+use Rattle.vep_manager.proofs.States.{held, grown, grants_at, commands_at, done_at, IsNextEntry}
+use Rattle.vep_manager.proofs.Standing.{Standing, standing, standing_more, legal_none, legal_more, grants_more}
+use Rattle.vep_manager.proofs.Settled.{few_grants, few_entries}
 
-pub kept_stands : {setup : Setup} {history : List Entry} {grants : List Grant} {horizon entry_room grant_room : ℕ} → IsKept setup history grants horizon entry_room grant_room → Standing setup last_cycle history
-kept_stands {setup} {history} kept = standing setup last_cycle kept.sound.cycles history kept.legal
+pub kept_stands : {state : ManagerState} {known : Known} → IsKept state known → Standing state LAST_CYCLE
+kept_stands {state} kept = standing state LAST_CYCLE kept.sound.cycles kept.legal
 
-pub kept_entries : {setup : Setup} {history : List Entry} {grants : List Grant} {horizon entry_room grant_room : ℕ} → IsKept setup history grants horizon entry_room grant_room → length history ≤ 256
-kept_entries {setup} {history} kept = omega (arith, few_entries setup last_cycle history (kept_stands kept), kept.sound.few_commands)
+pub kept_entries : {state : ManagerState} {known : Known} → IsKept state known → length state.history ≤ MOST_COMMANDS
+kept_entries {state} kept = omega (arith, few_entries state LAST_CYCLE (kept_stands kept), kept.sound.few_commands)
 
-pub kept_grants : {setup : Setup} {history : List Entry} {grants : List Grant} {horizon entry_room grant_room : ℕ} → IsKept setup history grants horizon entry_room grant_room → length grants ≤ length setup.loads
-kept_grants {setup} {history} kept = omega (arith, few_grants setup last_cycle history (kept_stands kept), ap length kept.grants_known)
+pub kept_grants : {state : ManagerState} {known : Known} → IsKept state known
+    → length known.grants ≤ length state.setup.loads
+kept_grants {state} kept = omega (arith, few_grants state LAST_CYCLE (kept_stands kept), ap length kept.grants_known)
 
-pub kept_count : {setup : Setup} {history : List Entry} {grants : List Grant} {horizon entry_room grant_room : ℕ} (session : ℕ) → IsKept setup history grants horizon entry_room grant_room → count_of history session ≤ length (commands_of setup session)
+pub kept_count : {state : ManagerState} {known : Known} (session : ℕ) → IsKept state known
+    → done_at state session ≤ length (commands_at state session)
 kept_count session kept = (kept_stands kept).within session
 
+-- what a manager keeps once an entry more stands in the history
+pub record Grows (state : ManagerState) (entry : Entry) (before after : Known) (history : List Entry) : Type 0 where
+  pub appended : history ≡ state.history ++ entry ∷ []
+  pub grants : after.grants ≡ grants_after state.setup entry.reply before.grants
+  pub horizon : after.horizon ≡ horizon_with state.setup (counted None history)
+  pub entries : after.entry_room ≡ before.entry_room
+  pub loads : after.grant_room ≡ before.grant_room
+
 -- one more entry
-pub kept_more : {setup : Setup} {history : List Entry} {grants : List Grant} {horizon entry_room grant_room : ℕ} (entry : Entry) (after : List Entry) (granted : List Grant) (next : ℕ) → IsKept setup history grants horizon entry_room grant_room → next_entry setup history entry.session ≡ Some entry → after ≡ history ++ entry ∷ [] → granted ≡ map (ended_by entry.reply) grants ++ option_to_list (opened_by setup entry.reply) → next ≡ horizon_with setup (counted None after) → IsKept setup after granted next entry_room grant_room
+pub kept_more : {state : ManagerState} {before : Known} (entry : Entry) (after : Known) (history : List Entry)
+    → IsKept state before → IsNextEntry state entry → Grows state entry before after history
+    → IsKept (held state.setup history) after
 unfolding horizon_of
-kept_more {setup} {history} {grants} entry after granted next kept is grown opened horizon = record {
+kept_more {state} {before} entry after history kept is grows = record {
   sound = kept.sound;
-  legal = subst (IsLegal setup) (sym grown) (legal_more setup history entry kept.legal is);
-  grants_known = opened ∙ ap (λ (l : List Grant). map (ended_by entry.reply) l ++ option_to_list (opened_by setup entry.reply)) kept.grants_known
-      ∙ sym (grants_more setup last_cycle history entry kept.sound.cycles is (kept_stands kept)) ∙ ap (grants_of setup) (sym grown);
-  horizon_known = horizon;
-  entries_fit = kept.entries_fit;
-  grants_fit = kept.grants_fit;
+  legal = subst (IsLegal state.setup) (sym grows.appended) (legal_more state.setup state.history entry kept.legal is);
+  grants_known = grows.grants ∙ ap (grants_after state.setup entry.reply) kept.grants_known
+      ∙ sym (grants_more state LAST_CYCLE entry kept.sound.cycles is (kept_stands kept))
+          ∙ ap (grants_of state.setup) (sym grows.appended);
+  horizon_known = grows.horizon;
+  entries_fit = omega (arith, kept.entries_fit, grows.entries);
+  grants_fit = omega (arith, kept.grants_fit, grows.loads);
 }
 
-one_grant : (reply : Reply) (grants : List Grant) (o : Option Grant) → IsSome o → length (map (ended_by reply) grants ++ option_to_list o) ≡ length grants + 1
+one_grant : (reply : Reply) (grants : List Grant) (o : Option Grant) → IsSome o
+    → length (map (ended_by reply) grants ++ option_to_list o) ≡ length grants + 1
 one_grant reply grants None opens = cc
-one_grant reply grants (Some grant) opens = length-append (map (ended_by reply) grants) (grant ∷ []) ∙ ap (λ n. n + 1) (length-map grants (ended_by reply))
+one_grant reply grants (Some grant) opens =
+    length-append (map (ended_by reply) grants) (grant ∷ []) ∙ ap (λ n. n + 1) (length-map grants (ended_by reply))
+
+stands_more : {state : ManagerState} {known : Known} (entry : Entry) → IsKept state known → IsNextEntry state entry
+    → Standing (grown state entry) LAST_CYCLE
+stands_more {state} entry kept is = standing_more state LAST_CYCLE entry kept.sound.cycles is (kept_stands kept)
 
 -- the next entry opens a grant only where there is room for it
-pub kept_room : {setup : Setup} {history : List Entry} {grants : List Grant} {horizon entry_room grant_room : ℕ} (entry : Entry) → IsKept setup history grants horizon entry_room grant_room → next_entry setup history entry.session ≡ Some entry → IsSome (opened_by setup entry.reply) → length grants < grant_room
-kept_room {setup} {history} {grants} entry kept is opens =
-    let more = standing_more setup last_cycle history entry kept.sound.cycles is (kept_stands kept) in
-    let few = few_grants setup last_cycle (history ++ entry ∷ []) more in
-    let grown = grants_more setup last_cycle history entry kept.sound.cycles is (kept_stands kept) in
-    omega (arith, few, ap length grown, one_grant entry.reply (grants_of setup history) (opened_by setup entry.reply) opens, ap length kept.grants_known, kept.grants_fit)
+pub kept_room : {state : ManagerState} {known : Known} (entry : Entry) → IsKept state known → IsNextEntry state entry
+    → IsSome (opened_by state.setup entry.reply) → length known.grants < known.grant_room
+kept_room {state} entry kept is opens =
+    let few = few_grants (grown state entry) LAST_CYCLE (stands_more entry kept is) in
+    let more = grants_more state LAST_CYCLE entry kept.sound.cycles is (kept_stands kept) in
+    let one = one_grant entry.reply (grants_at state) (opened_by state.setup entry.reply) opens in
+    omega (arith, few, ap length more, one, ap length kept.grants_known, kept.grants_fit)
 
 -- there is room for the next entry
-pub kept_space : {setup : Setup} {history : List Entry} {grants : List Grant} {horizon entry_room grant_room : ℕ} (entry : Entry) → IsKept setup history grants horizon entry_room grant_room → next_entry setup history entry.session ≡ Some entry → length history < entry_room
-kept_space {setup} {history} entry kept is =
-    let more = standing_more setup last_cycle history entry kept.sound.cycles is (kept_stands kept) in
-    let few = few_entries setup last_cycle (history ++ entry ∷ []) more in
-    omega (arith, few, length-append history (entry ∷ []), kept.entries_fit)
+pub kept_space : {state : ManagerState} {known : Known} (entry : Entry) → IsKept state known → IsNextEntry state entry
+    → length state.history < known.entry_room
+kept_space {state} entry kept is =
+    let few = few_entries (grown state entry) LAST_CYCLE (stands_more entry kept is) in
+    omega (arith, few, length-append state.history (entry ∷ []), kept.entries_fit)
 
 -- and the history with it is short
-pub kept_short : {setup : Setup} {history : List Entry} {grants : List Grant} {horizon entry_room grant_room : ℕ} (entry : Entry) → IsKept setup history grants horizon entry_room grant_room → next_entry setup history entry.session ≡ Some entry → length (history ++ entry ∷ []) ≤ 256
-kept_short {setup} {history} entry kept is =
-    let more = standing_more setup last_cycle history entry kept.sound.cycles is (kept_stands kept) in
-    let few = few_entries setup last_cycle (history ++ entry ∷ []) more in
+pub kept_short : {state : ManagerState} {known : Known} (entry : Entry) → IsKept state known → IsNextEntry state entry
+    → length (state.history ++ entry ∷ []) ≤ MOST_COMMANDS
+kept_short {state} entry kept is =
+    let few = few_entries (grown state entry) LAST_CYCLE (stands_more entry kept is) in
     omega (arith, few, kept.sound.few_commands)
 
 -- no history
-pub kept_none : (setup : Setup) (history : List Entry) (grants : List Grant) (horizon entry_room grant_room : ℕ) → IsSound setup → history ≡ [] → grants ≡ [] → horizon ≡ horizon_with setup (counted None history) → command_count setup ≤ entry_room → length setup.loads ≤ grant_room → IsKept setup history grants horizon entry_room grant_room
+pub kept_none : (setup : Setup) (known : Known) → IsSound setup → known.grants ≡ []
+    → known.horizon ≡ horizon_with setup (counted None []) → command_count setup ≤ known.entry_room
+    → length setup.loads ≤ known.grant_room → IsKept (held setup []) known
 unfolding grants_of horizon_of
-kept_none setup history grants horizon entry_room grant_room sound none no_grants is entries loads = record {
+kept_none setup known sound no_grants is entries loads = record {
   sound = sound;
-  legal = subst (IsLegal setup) (sym none) (legal_none setup);
-  grants_known = no_grants ∙ ap (grants_of setup) (sym none);
+  legal = legal_none setup;
+  grants_known = no_grants;
   horizon_known = is;
   entries_fit = entries;
   grants_fit = loads;
 }
 
-small_of : (setup : Setup) (limit : ℕ) (end : Option ℕ) → limit ≤ 2 ^ 62 → IfSome end (λ e. IsEarly setup limit e) → IfSome end (λ e. e < 2 ^ 63)
+small_of : (setup : Setup) (limit : ℕ) (end : Option ℕ) → limit ≤ 2 ^ 62 → IfSome end (λ e. IsEarly setup limit e)
+    → IfSome end (λ e. e < 2 ^ 63)
 small_of setup limit None low early = tt
 small_of setup limit (Some end) low early =
     let times = le-mul_of_pos_right end setup.world.platform.slot_cycles_in_range.0 in
     omega (arith, times, early, setup.world.platform.slot_cycles_in_range)
 
 -- the slot after each end is a number that fits
-pub kept_small : {setup : Setup} {history : List Entry} {grants : List Grant} {horizon entry_room grant_room : ℕ} → IsKept setup history grants horizon entry_room grant_room → All HasSmallEnd grants
-kept_small {setup} {history} kept =
-    subst (λ (l : List Grant). All HasSmallEnd l) (sym kept.grants_known) (λ k d below. small_of setup last_cycle (get_or (grants_of setup history) k d).end (lit≤ tt) ((kept_stands kept).end_early k d below))
+pub kept_small : {state : ManagerState} {known : Known} → IsKept state known → All HasSmallEnd known.grants
+kept_small {state} kept =
+    let all : All HasSmallEnd (grants_at state) = λ k d below.
+    small_of state.setup LAST_CYCLE (get_or (grants_at state) k d).end (lit≤ tt)
+        ((kept_stands kept).end_early k d below) in
+    subst (λ (l : List Grant). All HasSmallEnd l) (sym kept.grants_known) all

@@ -2,7 +2,11 @@ pub mod Lists
 pub mod Labels
 pub mod Growth
 pub mod SetupLemmas
+pub mod States
 pub mod Replied
+pub mod Nexts
 pub mod Standing
+pub mod Settled
 pub mod Keeping
 pub mod Small
+pub mod Laws

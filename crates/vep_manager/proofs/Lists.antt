@@ -11,15 +11,19 @@ use Rattle.std.proofs.lemmas.List.{take-append-drop, get_or_default}
 use Rattle.std.proofs.lemmas.List.Elements.{All-nil, All-cons, All-head, All-tail, All-map, All-contains, All-append, Contains-append_right, Contains-append_left, Contains-append_cases}
 
 -- what gave a value
-pub mapped : {X Y : Type 0} (f : X → Y) (o : Option X) (y : Y) → option_map f o ≡ Some y → (x : X) × (o ≡ Some x) × (f x ≡ y)
+pub mapped : {X Y : Type 0} (f : X → Y) (o : Option X) (y : Y) → option_map f o ≡ Some y
+    → (x : X) × (o ≡ Some x) × (f x ≡ y)
 mapped f None y e = cc
 mapped f (Some x) y e = (x, refl, cc)
 
-pub and_then : {X Y : Type 0} (f : X → Option Y) (o : Option X) (y : Y) → option_and_then f o ≡ Some y → (x : X) × (o ≡ Some x) × (f x ≡ Some y)
+pub and_then : {X Y : Type 0} (f : X → Option Y) (o : Option X) (y : Y) → option_and_then f o ≡ Some y
+    → (x : X) × (o ≡ Some x) × (f x ≡ Some y)
 and_then f None y e = cc
 and_then f (Some x) y e = (x, refl, e)
 
-found_here : {X : Type 0} (p : X → Bool) (y x : X) (ys : List X) (passes : Bool) → p y ≡ passes → cond passes (Some y) (find p ys) ≡ Some x → (find p ys ≡ Some x → (p x ≡ true) × Contains ys x) → (p x ≡ true) × Contains (y ∷ ys) x
+found_here : {X : Type 0} (p : X → Bool) (y x : X) (ys : List X) (passes : Bool) → p y ≡ passes
+    → cond passes (Some y) (find p ys) ≡ Some x → (find p ys ≡ Some x → (p x ≡ true) × Contains ys x)
+    → (p x ≡ true) × Contains (y ∷ ys) x
 found_here p y x ys true test e later =
     let same : y ≡ x = cc in
     (ap p (sym same) ∙ test, Contains-append_left (y ∷ []) ys x (0, omega arith, same))
@@ -32,7 +36,9 @@ pub found : {X : Type 0} (p : X → Bool) (xs : List X) (x : X) → find p xs �
 found p [] x e = cc
 found p (y ∷ ys) x e = found_here p y x ys (p y) refl e (found p ys x)
 
-none_here : {X : Type 0} (p : X → Bool) (y : X) (ys : List X) (passes : Bool) → p y ≡ passes → cond passes (Some y) (find p ys) ≡ None → (find p ys ≡ None → All (λ x. p x ≡ false) ys) → All (λ x. p x ≡ false) (y ∷ ys)
+none_here : {X : Type 0} (p : X → Bool) (y : X) (ys : List X) (passes : Bool) → p y ≡ passes
+    → cond passes (Some y) (find p ys) ≡ None → (find p ys ≡ None → All (λ x. p x ≡ false) ys)
+    → All (λ x. p x ≡ false) (y ∷ ys)
 none_here p y ys true test e later = cc
 none_here p y ys false test e later = All-cons (λ x. p x ≡ false) y ys test (later e)
 
@@ -46,11 +52,14 @@ some_of None wrong = absurd (false≢true (wrong refl))
 some_of (Some x) wrong = refl
 
 -- where an item passes, one is found
-pub is_found : {X : Type 0} (p : X → Bool) (xs : List X) (x : X) → Contains xs x → p x ≡ true → is_some (find p xs) ≡ true
-is_found p xs x inside passes = some_of (find p xs) (λ none. sym (All-contains (λ y. p y ≡ false) xs x (not_found p xs none) inside) ∙ passes)
+pub is_found : {X : Type 0} (p : X → Bool) (xs : List X) (x : X) → Contains xs x → p x ≡ true
+    → is_some (find p xs) ≡ true
+is_found p xs x inside passes =
+    some_of (find p xs) (λ none. sym (All-contains (λ y. p y ≡ false) xs x (not_found p xs none) inside) ∙ passes)
 
 -- a fact of each pair of a list and of one item more in front
-pub pairs_cons : {X : Type 0} (R : X → X → Type 0) (x : X) (xs : List X) → All (R x) xs → AllPairs R xs → (i j : ℕ) (d : X) → i < j → j < length (x ∷ xs) → R (get_or (x ∷ xs) i d) (get_or (x ∷ xs) j d)
+pub pairs_cons : {X : Type 0} (R : X → X → Type 0) (x : X) (xs : List X) → All (R x) xs → AllPairs R xs
+    → (i j : ℕ) (d : X) → i < j → j < length (x ∷ xs) → R (get_or (x ∷ xs) i d) (get_or (x ∷ xs) j d)
 pairs_cons R x xs first rest i zero d low high = absurd (omega arith)
 pairs_cons R x xs first rest zero (suc j) d low high = first j d (omega arith)
 pairs_cons R x xs first rest (suc i) (suc j) d low high = rest i j d (omega arith) (omega arith)
@@ -69,7 +78,8 @@ only x z (zero, below, is) = is
 only x z (suc k, below, is) = absurd (omega arith)
 
 -- pairs within two lists, and across them
-pub pairs_append : {X : Type 0} (R : X → X → Type 0) (xs ys : List X) → AllPairs R xs → AllPairs R ys → All (λ x. All (R x) ys) xs → AllPairs R (xs ++ ys)
+pub pairs_append : {X : Type 0} (R : X → X → Type 0) (xs ys : List X) → AllPairs R xs → AllPairs R ys
+    → All (λ x. All (R x) ys) xs → AllPairs R (xs ++ ys)
 pairs_append R [] ys left right across = right
 pairs_append R (x ∷ xs) ys left right across =
     pairs_cons R x (xs ++ ys)
@@ -77,16 +87,19 @@ pairs_append R (x ∷ xs) ys left right across =
     (pairs_append R xs ys (pairs_tail R x xs left) right (All-tail (λ x. All (R x) ys) x xs across))
 
 -- pairs whose items a function changes
-pub pairs_map : {X Y : Type 0} (R : X → X → Type 0) (S : Y → Y → Type 0) (f : X → Y) → ((a b : X) → R a b → S (f a) (f b)) → (xs : List X) → AllPairs R xs → AllPairs S (map f xs)
+pub pairs_map : {X Y : Type 0} (R : X → X → Type 0) (S : Y → Y → Type 0) (f : X → Y)
+    → ((a b : X) → R a b → S (f a) (f b)) → (xs : List X) → AllPairs R xs → AllPairs S (map f xs)
 pairs_map R S f keeps [] pairs = pairs_none S
 pairs_map R S f keeps (x ∷ xs) pairs =
     pairs_cons S (f x) (map f xs)
     (All-map (S (f x)) f xs (λ k d below. keeps x (get_or xs k d) (pairs_head R x xs pairs k d below)))
     (pairs_map R S f keeps xs (pairs_tail R x xs pairs))
 
-split_at : {X : Type 0} (ys : List X) (k : ℕ) (x : X) → k < length ys → get_or ys k x ≡ x → ys ≡ take k ys ++ x ∷ drop (suc k) ys
+split_at : {X : Type 0} (ys : List X) (k : ℕ) (x : X) → k < length ys → get_or ys k x ≡ x
+    → ys ≡ take k ys ++ x ∷ drop (suc k) ys
 split_at ys k x below is =
-    sym (take-append-drop k ys) ∙ ap (λ rest. take k ys ++ rest) (drop-cons ys k x below ∙ ap (λ y. y ∷ drop (suc k) ys) is)
+    sym (take-append-drop k ys)
+        ∙ ap (λ rest. take k ys ++ rest) (drop-cons ys k x below ∙ ap (λ y. y ∷ drop (suc k) ys) is)
 
 other_stays : {X : Type 0} (a b : List X) (x z : X) → (x ≡ z → ⊥) → Contains (a ++ x ∷ b) z → Contains (a ++ b) z
 other_stays a b x z apart inside =
@@ -108,13 +121,15 @@ fewer {X} (x ∷ xs) ys apart inside =
     let a : List X = take here.0 ys in
     let b : List X = drop (suc here.0) ys in
     let others : All (Contains (a ++ b)) xs = λ k d below.
-    other_stays a b x (get_or xs k d) (pairs_head (λ a b. a ≢ b) x xs apart k d below) (subst (λ (l : List X). Contains l (get_or xs k d)) is (All-tail (Contains ys) x xs inside k d below)) in
+    other_stays a b x (get_or xs k d) (pairs_head (λ a b. a ≢ b) x xs apart k d below)
+        (subst (λ (l : List X). Contains l (get_or xs k d)) is (All-tail (Contains ys) x xs inside k d below)) in
     let rest = fewer xs (a ++ b) (pairs_tail (λ a b. a ≢ b) x xs apart) others in
     omega (arith, rest, ap length is, length-append a (x ∷ b), length-append a b)
 
 -- where one list with an item at its end is another around an item, that item is the last, or it stands
 -- in the list before the end
-pub split_last : {X : Type 0} (xs : List X) (x : X) (before : List X) (y : X) (after : List X) → xs ++ x ∷ [] ≡ before ++ y ∷ after → ((xs ≡ before) × (x ≡ y)) ⊎ ((rest : List X) × (xs ≡ before ++ y ∷ rest))
+pub split_last : {X : Type 0} (xs : List X) (x : X) (before : List X) (y : X) (after : List X)
+    → xs ++ x ∷ [] ≡ before ++ y ∷ after → ((xs ≡ before) × (x ≡ y)) ⊎ ((rest : List X) × (xs ≡ before ++ y ∷ rest))
 split_last [] x [] y after e = inl (refl, cc)
 split_last [] x (b ∷ bs) y after e = absurd (omega (arith, ap length e, length-append bs (y ∷ after)))
 split_last (z ∷ zs) x [] y after e = inr (zs, cc)
@@ -127,15 +142,21 @@ split_last {X} (z ∷ zs) x (b ∷ bs) y after e =
     ]
 
 -- the step of a loop that changes each item of a list in turn, where what is read is a default past the end
-pub changed_more : {X : Type 0} (f : X → X) (xs ys : List X) (i : ℕ) (y d : X) → i < length xs → length ys ≡ length xs → ys ≡ map f (take i xs) ++ drop i xs → y ≡ f (get_or ys i d) → set ys i y ≡ map f (take (i + 1) xs) ++ drop (i + 1) xs
+pub changed_more : {X : Type 0} (f : X → X) (xs ys : List X) (i : ℕ) (y d : X) → i < length xs → length ys ≡ length xs
+    → ys ≡ map f (take i xs) ++ drop i xs → y ≡ f (get_or ys i d)
+    → set ys i y ≡ map f (take (i + 1) xs) ++ drop (i + 1) xs
 changed_more f xs ys i y d below same so_far is =
     let low : i < length ys = omega arith in
     rw is (map_over_more f xs ys i (get_or ys i d) below so_far (get_or_default ys i d (get_or ys i d) low))
 
-place_cases : {X : Type 0} (p : X → Bool) (xs : List X) (here : Bool) → nat_lt (position_or_len p xs) (length xs) ≡ here → unwrap_or (cond here (Some (position_or_len p xs)) None) (length xs) ≡ position_or_len p xs
+place_cases : {X : Type 0} (p : X → Bool) (xs : List X) (here : Bool)
+    → nat_lt (position_or_len p xs) (length xs) ≡ here
+    → unwrap_or (cond here (Some (position_or_len p xs)) None) (length xs) ≡ position_or_len p xs
 place_cases p xs true is = refl
-place_cases p xs false is = let past = ltb-false (position_or_len p xs) (length xs) is in omega (arith, past, prefix_len-le-length (λ x. not (p x)) xs)
+place_cases p xs false is = let past =
+    ltb-false (position_or_len p xs) (length xs) is in omega (arith, past, prefix_len-le-length (λ x. not (p x)) xs)
 
 -- the first place that passes, and the length where there is none
-pub place_or : {X : Type 0} (p : X → Bool) (xs : List X) → unwrap_or (position p xs) (length xs) ≡ position_or_len p xs
+pub place_or : {X : Type 0} (p : X → Bool) (xs : List X)
+    → unwrap_or (position p xs) (length xs) ≡ position_or_len p xs
 place_or p xs = place_cases p xs (nat_lt (position_or_len p xs) (length xs)) refl

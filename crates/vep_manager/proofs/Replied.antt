@@ -27,58 +27,66 @@ use Rattle.vep_manager.specs.declared.reply.Reply.TheVariants.{Malformed, Past, 
 use Rattle.vep_manager.specs.declared.reply.Entry.{Entry}
 use Rattle.vep_manager.specs.Loads.{loaded_name, loaded_names}
 use Rattle.vep_manager.specs.Setup.{stated_cycle, StatesWithin}
-use Rattle.vep_manager.specs.History.{numbered, is_used_up, granted_slot, commands_of, count_of, end_by, bundle_of, grants_of, horizon_of}
+use Rattle.vep_manager.specs.History.{numbered, is_used_up, granted_slot, commands_of, count_of, end_by, loaded_place, grants_of, horizon_of}
 use Rattle.vep_manager.specs.Replies.{taken_by, first_conflict, load_reply, stop_reply, judged_of, next_label, reply_to, next_entry}
 use Rattle.vep_manager.specs.Granted.{IsEarly}
-use Rattle.vep_manager.specs.Kept.{opened_by}
+use Rattle.vep_manager.specs.Manager.{ManagerState}
+use Rattle.vep_manager.specs.inner.Keeping.{opened_by}
+use Rattle.vep_manager.proofs.States.{held, grown, grants_at, horizon_at, commands_at, done_at, label_at, reply_at, next_at, IsNextEntry, loads_before, OneMoreLoad}
 use Rattle.vep_manager.proofs.Lists.{mapped, and_then, found, is_found, not_found}
 use Rattle.vep_manager.proofs.Labels.{label_is, label_same}
 use Rattle.vep_manager.proofs.SetupLemmas.{script_of, numbered_next, loads_next, loads_known, next_is_known}
 
 -- a session's next command, and its reply
-pub record IsNext (setup : Setup) (history : List Entry) (session : ℕ) (command : Command) (reply : Reply) : Type 0 where
-  pub at : slice_get (commands_of setup session) (count_of history session) ≡ Some command
-  pub replied : reply_to setup history session command ≡ Some reply
+pub record IsNext (state : ManagerState) (session : ℕ) (command : Command) (reply : Reply) : Type 0 where
+  pub at : slice_get (commands_at state session) (done_at state session) ≡ Some command
+  pub replied : reply_at state session command ≡ Some reply
 
 -- what entry comes next tells which command is next
-pub next_command : (setup : Setup) (history : List Entry) (entry : Entry) → next_entry setup history entry.session ≡ Some entry → (command : Command) × IsNext setup history entry.session command entry.reply
+pub next_command : (state : ManagerState) (entry : Entry) → IsNextEntry state entry
+    → (command : Command) × IsNext state entry.session command entry.reply
 unfolding next_entry
-next_command setup history entry e =
-    let made = mapped _ (option_and_then (reply_to setup history entry.session) (numbered (commands_of setup entry.session) (count_of history entry.session + 1))) entry e in
-    let it = and_then (reply_to setup history entry.session) (numbered (commands_of setup entry.session) (count_of history entry.session + 1)) made.0 made.1 in
+next_command state entry e =
+    let made = mapped _ (option_and_then (reply_at state entry.session)
+        (numbered (commands_at state entry.session) (done_at state entry.session + 1))) entry e in
+    let it = and_then (reply_at state entry.session)
+        (numbered (commands_at state entry.session) (done_at state entry.session + 1)) made.0 made.1 in
     let same : made.0 ≡ entry.reply = ap (λ (x : Entry). x.reply) made.2 in
-    (it.0, record { at = sym (numbered_next (commands_of setup entry.session) (count_of history entry.session)) ∙ it.1; replied = it.2 ∙ ap Some same })
+    (it.0, record { at = sym (numbered_next (commands_at state entry.session) (done_at state entry.session)) ∙ it.1;
+        replied = it.2 ∙ ap Some same })
 
 -- a grant that a reply opens
-pub record Opens (setup : Setup) (limit : ℕ) (history : List Entry) (session : ℕ) (grant : Grant) : Type 0 where
+pub record Opens (state : ManagerState) (limit session : ℕ) (grant : Grant) : Type 0 where
   pub endless : grant.end ≡ None
-  pub label : grant.label ≡ next_label setup session (count_of history session)
-  pub more : length (loaded_names (take (count_of history session + 1) (commands_of setup session))) ≡ length (loaded_names (take (count_of history session) (commands_of setup session))) + 1
-  pub known : IsSome (bundle_at setup.world grant.bundle)
-  pub of_loads : Contains setup.loads (record { label = grant.label; bundle = grant.bundle })
-  pub early : IsEarly setup limit grant.start
-  pub clear : (one : Grant) → Contains (grants_of setup history) one → IsTrue (do_meet setup.world one grant) → EndsBefore one grant
+  pub label : grant.label ≡ label_at state session
+  pub more : OneMoreLoad state session
+  pub known : IsSome (bundle_at state.setup.world grant.bundle)
+  pub of_loads : Contains state.setup.loads (record { label = grant.label; bundle = grant.bundle })
+  pub early : IsEarly state.setup limit grant.start
+  pub clear : (one : Grant) → Contains (grants_at state) one → IsTrue (do_meet state.setup.world one grant)
+      → EndsBefore one grant
 
 -- a grant to which a reply gives an end
-pub record Closes (setup : Setup) (limit : ℕ) (history : List Entry) (label : Label) (end : ℕ) : Type 0 where
+pub record Closes (state : ManagerState) (limit : ℕ) (label : Label) (end : ℕ) : Type 0 where
   pub grant : Grant
-  pub inside : Contains (grants_of setup history) grant
+  pub inside : Contains (grants_at state) grant
   pub named : grant.label ≡ label
   pub after : grant.start ≤ end
-  pub early : IsEarly setup limit end
+  pub early : IsEarly state.setup limit end
 
-pub record Tells (setup : Setup) (limit : ℕ) (history : List Entry) (session : ℕ) (reply : Reply) : Type 0 where
-  pub opens : IfSome (opened_by setup reply) (Opens setup limit history session)
-  pub closes : (label : Label) (end : ℕ) → end_by label reply ≡ Some end → Closes setup limit history label end
+pub record Tells (state : ManagerState) (limit session : ℕ) (reply : Reply) : Type 0 where
+  pub opens : IfSome (opened_by state.setup reply) (Opens state limit session)
+  pub closes : (label : Label) (end : ℕ) → end_by label reply ≡ Some end → Closes state limit label end
 
 -- a reply that opens no grant and ends none
 record IsQuiet (setup : Setup) (reply : Reply) : Type 0 where
   opens : opened_by setup reply ≡ None
   closes : (label : Label) → end_by label reply ≡ None
 
-quiet_tells : (setup : Setup) (limit : ℕ) (history : List Entry) (session : ℕ) (reply : Reply) → IsQuiet setup reply → Tells setup limit history session reply
-quiet_tells setup limit history session reply quiet = record {
-  opens = subst (λ (o : Option Grant). IfSome o (Opens setup limit history session)) (sym quiet.opens) tt;
+quiet_tells : (state : ManagerState) (limit session : ℕ) (reply : Reply) → IsQuiet state.setup reply
+    → Tells state limit session reply
+quiet_tells state limit session reply quiet = record {
+  opens = subst (λ (o : Option Grant). IfSome o (Opens state limit session)) (sym quiet.opens) tt;
   closes = λ label end e. let none = quiet.closes label in cc;
 }
 
@@ -86,14 +94,22 @@ contains_at : {X : Type 0} (xs : List X) (i : ℕ) (x : X) → slice_get xs i �
 contains_at xs i x e = (i, slice_get_within xs i x e, get_or_from_slice_get xs i x x e)
 
 -- the slot for a stated cycle is early
-stated_early : (setup : Setup) (limit session n : ℕ) (command : Command) → StatesWithin setup limit → slice_get (commands_of setup session) n ≡ Some command → IsEarly setup limit (granted_slot setup (stated_cycle command))
+stated_early : (setup : Setup) (limit session n : ℕ) (command : Command) → StatesWithin setup limit
+    → slice_get (commands_of setup session) n ≡ Some command
+    → IsEarly setup limit (granted_slot setup (stated_cycle command))
 stated_early setup limit session n command within at =
     let it = script_of setup session n command at in
     let script : Script = it.0 in
-    let all : All (λ command. stated_cycle command ≤ limit) script.commands = All-contains (λ (s : Script). All (λ command. stated_cycle command ≤ limit) s.commands) setup.scripts script within (contains_at setup.scripts (session - 1) script it.1.there) in
-    let there : slice_get script.commands n ≡ Some command = ap (λ (l : List Command). slice_get l n) (sym it.1.commands) ∙ at in
-    let low : stated_cycle command ≤ limit = All-contains (λ (c : Command). stated_cycle c ≤ limit) script.commands command all (contains_at script.commands n command there) in
-    let bound = (div_ceil_times (stated_cycle command) setup.world.platform.slot_cycles setup.world.platform.slot_cycles_in_range.0).1 in
+    let all : All (λ command. stated_cycle command ≤ limit) script.commands =
+        All-contains (λ (s : Script). All (λ command. stated_cycle command ≤ limit) s.commands) setup.scripts script
+        within (contains_at setup.scripts (session - 1) script it.1.there) in
+    let there : slice_get script.commands n ≡ Some command =
+        ap (λ (l : List Command). slice_get l n) (sym it.1.commands) ∙ at in
+    let low : stated_cycle command ≤ limit =
+        All-contains (λ (c : Command). stated_cycle c ≤ limit) script.commands command all
+        (contains_at script.commands n command there) in
+    let bound = (div_ceil_times (stated_cycle command) setup.world.platform.slot_cycles
+        setup.world.platform.slot_cycles_in_range.0).1 in
     omega (arith, low, bound)
 
 ends_before : (start : ℕ) (o : Option ℕ) → lasts_to start o ≡ false → IsSomeAnd o (λ end. end < start)
@@ -108,23 +124,33 @@ or_none : (a b : Bool) → a ≡ false → b ≡ false → (a || b) ≡ false
 or_none true b e f = e
 or_none false b e f = f
 
-found_none : {X : Type 0} (o : Option X) (f : X → Reply) (rest : Option Reply) → option_map_or (λ x. Some (f x)) o rest ≡ None → (o ≡ None) × (rest ≡ None)
+found_none : {X : Type 0} (o : Option X) (f : X → Reply) (rest : Option Reply)
+    → option_map_or (λ x. Some (f x)) o rest ≡ None → (o ≡ None) × (rest ≡ None)
 found_none None f rest e = (refl, e)
 found_none (Some x) f rest e = cc
 
 -- where no resource is taken, a grant that lasts to the start meets none of them
-none_met : (world : World) (grants : List Grant) (start : ℕ) (resources : List Resource) → first_conflict world grants start resources ≡ None → (one : Grant) → Contains grants one → lasts_to start one.end ≡ true → list_any (λ resource. list_any (λ held. meets_of held resource) (grant_resources world one)) resources ≡ false
+none_met : (world : World) (grants : List Grant) (start : ℕ) (resources : List Resource)
+    → first_conflict world grants start resources ≡ None → (one : Grant) → Contains grants one
+    → lasts_to start one.end ≡ true
+    → list_any (λ resource. list_any (λ held. meets_of held resource) (grant_resources world one)) resources ≡ false
 none_met world grants start [] free one inside lasts = refl
 none_met world grants start (resource ∷ resources) free one inside lasts =
-    let parts = found_none (find (conflicts world start resource) grants) (taken_by resource) (first_conflict world grants start resources) free in
-    let here : conflicts world start resource one ≡ false = All-contains (λ g. conflicts world start resource g ≡ false) grants one (not_found (conflicts world start resource) grants parts.0) inside in
-    or_none _ _ (and_left (lasts_to start one.end) _ here lasts) (none_met world grants start resources parts.1 one inside lasts)
+    let parts = found_none (find (conflicts world start resource) grants) (taken_by resource)
+        (first_conflict world grants start resources) free in
+    let here : conflicts world start resource one ≡ false =
+        All-contains (λ g. conflicts world start resource g ≡ false) grants one
+        (not_found (conflicts world start resource) grants parts.0) inside in
+    or_none _ _ (and_left (lasts_to start one.end) _ here lasts)
+        (none_met world grants start resources parts.1 one inside lasts)
 
 bool_cases : (b : Bool) → (b ≡ true) ⊎ (b ≡ false)
 bool_cases true = inl refl
 bool_cases false = inr refl
 
-clear_of : (world : World) (grants : List Grant) (grant : Grant) → first_conflict world grants grant.start (grant_resources world grant) ≡ None → (one : Grant) → Contains grants one → IsTrue (do_meet world one grant) → EndsBefore one grant
+clear_of : (world : World) (grants : List Grant) (grant : Grant)
+    → first_conflict world grants grant.start (grant_resources world grant) ≡ None → (one : Grant)
+    → Contains grants one → IsTrue (do_meet world one grant) → EndsBefore one grant
 clear_of world grants grant free one inside meet =
     elim (bool_cases (lasts_to grant.start one.end)) [
       | inl lasts ↦
@@ -133,61 +159,96 @@ clear_of world grants grant free one inside meet =
       | inr over ↦ ends_before grant.start one.end over
     ]
 
-taken_step : (setup : Setup) (o : Option Grant) (resource : Resource) (rest : Option Reply) (reply : Reply) → (rest ≡ Some reply → IsQuiet setup reply) → option_map_or (λ grant. Some (taken_by resource grant)) o rest ≡ Some reply → IsQuiet setup reply
+taken_step : (setup : Setup) (o : Option Grant) (resource : Resource) (rest : Option Reply) (reply : Reply)
+    → (rest ≡ Some reply → IsQuiet setup reply)
+    → option_map_or (λ grant. Some (taken_by resource grant)) o rest ≡ Some reply → IsQuiet setup reply
 taken_step setup None resource rest reply later e = later e
 taken_step setup (Some grant) resource rest reply later e =
     let same : taken_by resource grant ≡ reply = cc in
     subst (λ (r : Reply). IsQuiet setup r) same (record { opens = refl; closes = λ label. refl })
 
-taken_quiet : (setup : Setup) (world : World) (grants : List Grant) (start : ℕ) (resources : List Resource) (reply : Reply) → first_conflict world grants start resources ≡ Some reply → IsQuiet setup reply
+taken_quiet : (setup : Setup) (world : World) (grants : List Grant) (start : ℕ) (resources : List Resource)
+    (reply : Reply)
+    → first_conflict world grants start resources ≡ Some reply → IsQuiet setup reply
 taken_quiet setup world grants start [] reply e = cc
 taken_quiet setup world grants start (resource ∷ resources) reply e =
-    taken_step setup (find (conflicts world start resource) grants) resource (first_conflict world grants start resources) reply (taken_quiet setup world grants start resources reply) e
+    taken_step setup (find (conflicts world start resource) grants) resource
+        (first_conflict world grants start resources) reply (taken_quiet setup world grants start resources reply) e
 
 -- a load whose bundle breaks no rule, and what it asks for
-record IsAsked (setup : Setup) (limit : ℕ) (history : List Entry) (session : ℕ) (bundle : Bundle) (start : ℕ) : Type 0 where
-  judged : judged_of setup (next_label setup session (count_of history session)) ≡ Some (Ok bundle)
-  more : length (loaded_names (take (count_of history session + 1) (commands_of setup session))) ≡ length (loaded_names (take (count_of history session) (commands_of setup session))) + 1
-  early : IsEarly setup limit start
+record IsAsked (state : ManagerState) (limit session : ℕ) (bundle : Bundle) (start : ℕ) : Type 0 where
+  judged : judged_of state.setup (label_at state session) ≡ Some (Ok bundle)
+  more : OneMoreLoad state session
+  early : IsEarly state.setup limit start
 
-opens_of : (setup : Setup) (limit : ℕ) (history : List Entry) (session : ℕ) (bundle : Bundle) (start : ℕ) → IsAsked setup limit history session bundle start → first_conflict setup.world (grants_of setup history) start (resources_of setup.world.platform bundle) ≡ None → Opens setup limit history session (record { label = next_label setup session (count_of history session); bundle = bundle_of setup (next_label setup session (count_of history session)); start = start; end = None })
-opens_of setup limit history session bundle start asked free =
-    let label : Label = next_label setup session (count_of history session) in
-    let it = and_then (λ (load : LoadName). option_map (λ (named : Named). named.judged) (slice_get setup.world.catalog load.bundle)) (find (λ load. same_label load.label label) setup.loads) (Ok bundle) asked.judged in
+opens_of : (state : ManagerState) (limit session : ℕ) (bundle : Bundle) (start : ℕ)
+    → IsAsked state limit session bundle start
+    → first_conflict state.setup.world (grants_at state) start (resources_of state.setup.world.platform bundle) ≡ None
+    → Opens state limit session
+        (record { label = label_at state session; bundle = loaded_place state.setup (label_at state session);
+        start = start; end = None })
+opens_of state limit session bundle start asked free =
+    let label : Label = label_at state session in
+    let it = and_then (λ (load : LoadName). option_map (λ (named : Named). named.judged)
+        (slice_get state.setup.world.catalog load.bundle))
+        (find (λ load. same_label load.label label) state.setup.loads) (Ok bundle) asked.judged in
     let load : LoadName = it.0 in
-    let there = found (λ (l : LoadName). same_label l.label label) setup.loads load it.1 in
-    let named = mapped (λ (n : Named). n.judged) (slice_get setup.world.catalog load.bundle) (Ok bundle) it.2 in
-    let place : bundle_of setup label ≡ load.bundle = ap (λ (o : Option LoadName). option_map_or (λ (l : LoadName). l.bundle) o 0) it.1 in
-    let kept : bundle_at setup.world (bundle_of setup label) ≡ Some bundle =
-    ap (bundle_at setup.world) place ∙ ap (λ (o : Option Named). option_and_then (λ (n : Named). kept_bundle n.judged) o) named.1 ∙ ap kept_bundle named.2 in
-    let grant : Grant = record { label = label; bundle = bundle_of setup label; start = start; end = None } in
-    let held : grant_resources setup.world grant ≡ resources_of setup.world.platform bundle = ap (λ (o : Option Bundle). option_map_or (resources_of setup.world.platform) o []) kept in
-    let same : load ≡ (let l : LoadName = record { label = label; bundle = bundle_of setup label } in l) = ap₂ (λ (l : Label) (b : ℕ). let name : LoadName = record { label = l; bundle = b } in name) (label_is load.label label there.0) (sym place) in
+    let there = found (λ (l : LoadName). same_label l.label label) state.setup.loads load it.1 in
+    let named = mapped (λ (n : Named). n.judged) (slice_get state.setup.world.catalog load.bundle) (Ok bundle) it.2 in
+    let place : loaded_place state.setup label ≡ load.bundle =
+        ap (λ (o : Option LoadName). option_map_or (λ (l : LoadName). l.bundle) o 0) it.1 in
+    let kept : bundle_at state.setup.world (loaded_place state.setup label) ≡ Some bundle =
+    ap (bundle_at state.setup.world) place
+        ∙ ap (λ (o : Option Named). option_and_then (λ (n : Named). kept_bundle n.judged) o) named.1
+        ∙ ap kept_bundle named.2 in
+    let grant : Grant = record { label = label; bundle = loaded_place state.setup label; start = start;
+        end = None } in
+    let held : grant_resources state.setup.world grant ≡ resources_of state.setup.world.platform bundle =
+        ap (λ (o : Option Bundle). option_map_or (resources_of state.setup.world.platform) o []) kept in
+    let same : load ≡ (let l : LoadName = record { label = label; bundle = loaded_place state.setup label } in l) =
+        ap₂ (λ (l : Label) (b : ℕ). let name : LoadName = record { label = l; bundle = b } in name)
+        (label_is load.label label there.0) (sym place) in
     record {
       endless = refl;
       label = refl;
       more = asked.more;
       known = ap is_some kept;
-      of_loads = subst (λ (l : LoadName). Contains setup.loads l) same there.1;
+      of_loads = subst (λ (l : LoadName). Contains state.setup.loads l) same there.1;
       early = asked.early;
-      clear = clear_of setup.world (grants_of setup history) grant (ap (first_conflict setup.world (grants_of setup history) start) held ∙ free);
+      clear = clear_of state.setup.world (grants_at state) grant
+          (ap (first_conflict state.setup.world (grants_at state) start) held ∙ free);
     }
 
-load_tells : (setup : Setup) (limit : ℕ) (history : List Entry) (session : ℕ) (bundle : Bundle) (start horizon : ℕ) (past : Bool) (o : Option Reply) → IsAsked setup limit history session bundle start → first_conflict setup.world (grants_of setup history) start (resources_of setup.world.platform bundle) ≡ o → Tells setup limit history session (cond past (Past horizon) (unwrap_or o (Granted (next_label setup session (count_of history session)) start)))
-load_tells setup limit history session bundle start horizon true o asked is = quiet_tells setup limit history session (Past horizon) (record { opens = refl; closes = λ label. refl })
-load_tells setup limit history session bundle start horizon false None asked is = record { opens = opens_of setup limit history session bundle start asked is; closes = λ label end e. cc }
-load_tells setup limit history session bundle start horizon false (Some reply) asked is =
-    quiet_tells setup limit history session reply (taken_quiet setup setup.world (grants_of setup history) start (resources_of setup.world.platform bundle) reply is)
+load_tells : (state : ManagerState) (limit session : ℕ) (bundle : Bundle) (start horizon : ℕ) (past : Bool)
+    (o : Option Reply)
+    → IsAsked state limit session bundle start
+    → first_conflict state.setup.world (grants_at state) start (resources_of state.setup.world.platform bundle) ≡ o
+    → Tells state limit session (cond past (Past horizon) (unwrap_or o (Granted (label_at state session) start)))
+load_tells state limit session bundle start horizon true o asked is =
+    quiet_tells state limit session (Past horizon) (record { opens = refl; closes = λ label. refl })
+load_tells state limit session bundle start horizon false None asked is =
+    record { opens = opens_of state limit session bundle start asked is; closes = λ label end e. cc }
+load_tells state limit session bundle start horizon false (Some reply) asked is =
+    quiet_tells state limit session reply
+        (taken_quiet state.setup state.setup.world (grants_at state) start
+        (resources_of state.setup.world.platform bundle) reply is)
 
-judged_tells : (setup : Setup) (limit : ℕ) (history : List Entry) (session : ℕ) (judged : Result Bundle BRule) (start : ℕ) → judged_of setup (next_label setup session (count_of history session)) ≡ Some judged → length (loaded_names (take (count_of history session + 1) (commands_of setup session))) ≡ length (loaded_names (take (count_of history session) (commands_of setup session))) + 1 → IsEarly setup limit start → Tells setup limit history session (load_reply setup history (next_label setup session (count_of history session)) start judged)
-judged_tells setup limit history session (Err rule) start is more early = quiet_tells setup limit history session (Malformed rule) (record { opens = refl; closes = λ label. refl })
-judged_tells setup limit history session (Ok bundle) start is more early =
-    load_tells setup limit history session bundle start (horizon_of setup history) (nat_lt start (horizon_of setup history)) (first_conflict setup.world (grants_of setup history) start (resources_of setup.world.platform bundle)) (record { judged = is; more = more; early = early }) refl
+judged_tells : (state : ManagerState) (limit session : ℕ) (judged : Result Bundle BRule) (start : ℕ)
+    → judged_of state.setup (label_at state session) ≡ Some judged → OneMoreLoad state session
+    → IsEarly state.setup limit start
+    → Tells state limit session (load_reply state.setup state.history (label_at state session) start judged)
+judged_tells state limit session (Err rule) start is more early =
+    quiet_tells state limit session (Malformed rule) (record { opens = refl; closes = λ label. refl })
+judged_tells state limit session (Ok bundle) start is more early =
+    load_tells state limit session bundle start (horizon_at state) (nat_lt start (horizon_at state))
+        (first_conflict state.setup.world (grants_at state) start (resources_of state.setup.world.platform bundle))
+        (record { judged = is; more = more; early = early }) refl
 
 max_is : (a b : ℕ) → (max a b ≡ a) ⊎ (max a b ≡ b)
 max_is a b = elim (cases_lt a b) [ inl low ↦ inr (omega arith) | inr high ↦ inl (omega arith) ]
 
-max_early : (setup : Setup) (limit a b : ℕ) → IsEarly setup limit a → IsEarly setup limit b → IsEarly setup limit (max a b)
+max_early : (setup : Setup) (limit a b : ℕ) → IsEarly setup limit a → IsEarly setup limit b
+    → IsEarly setup limit (max a b)
 max_early setup limit a b one other =
     elim (max_is a b) [
       | inl is ↦ subst (λ (n : ℕ). IsEarly setup limit n) (sym is) one
@@ -195,13 +256,19 @@ max_early setup limit a b one other =
     ]
 
 -- the grants begin early
-abbrev pub BeginEarly : Setup → ℕ → List Entry → Type 0
-BeginEarly setup limit history = All (λ grant. IsEarly setup limit grant.start) (grants_of setup history)
+abbrev pub BeginEarly : ManagerState → ℕ → Type 0
+BeginEarly state limit = All (λ grant. IsEarly state.setup limit grant.start) (grants_at state)
 
-stopped_tells : (setup : Setup) (limit : ℕ) (history : List Entry) (session horizon slot : ℕ) (grant : Grant) (past : Bool) (end : Option ℕ) → Contains (grants_of setup history) grant → IsEarly setup limit slot → BeginEarly setup limit history → Tells setup limit history session (option_map_or (λ end. Already end) end (cond past (Past horizon) (Stopped grant.label (max slot grant.start))))
-stopped_tells setup limit history session horizon slot grant past (Some end) inside early begun = quiet_tells setup limit history session (Already end) (record { opens = refl; closes = λ label. refl })
-stopped_tells setup limit history session horizon slot grant true None inside early begun = quiet_tells setup limit history session (Past horizon) (record { opens = refl; closes = λ label. refl })
-stopped_tells setup limit history session horizon slot grant false None inside early begun = record {
+stopped_tells : (state : ManagerState) (limit session horizon slot : ℕ) (grant : Grant) (past : Bool) (end : Option ℕ)
+    → Contains (grants_at state) grant → IsEarly state.setup limit slot → BeginEarly state limit
+    → Tells state limit session
+        (option_map_or (λ end. Already end) end
+        (cond past (Past horizon) (Stopped grant.label (max slot grant.start))))
+stopped_tells state limit session horizon slot grant past (Some end) inside early begun =
+    quiet_tells state limit session (Already end) (record { opens = refl; closes = λ label. refl })
+stopped_tells state limit session horizon slot grant true None inside early begun =
+    quiet_tells state limit session (Past horizon) (record { opens = refl; closes = λ label. refl })
+stopped_tells state limit session horizon slot grant false None inside early begun = record {
   opens = tt;
   closes = λ label end e.
       let is = cond_some (same_label grant.label label) (max slot grant.start) end e in
@@ -210,106 +277,43 @@ stopped_tells setup limit history session horizon slot grant false None inside e
         inside = inside;
         named = label_is grant.label label is.0;
         after = omega (arith, is.1);
-        early = subst (λ (n : ℕ). IsEarly setup limit n) is.1 (max_early setup limit slot grant.start early (All-contains (λ (g : Grant). IsEarly setup limit g.start) (grants_of setup history) grant begun inside));
+        early = subst (λ (n : ℕ). IsEarly state.setup limit n) is.1
+            (max_early state.setup limit slot grant.start early
+            (All-contains (λ (g : Grant). IsEarly state.setup limit g.start) (grants_at state) grant begun inside));
       };
 }
 
-stop_tells : (setup : Setup) (limit : ℕ) (history : List Entry) (session slot : ℕ) (label : Label) (o : Option Grant) → find (λ grant. same_label grant.label label) (grants_of setup history) ≡ o → IsEarly setup limit slot → BeginEarly setup limit history → Tells setup limit history session (stop_reply (horizon_of setup history) slot o)
-stop_tells setup limit history session slot label None is early begun = quiet_tells setup limit history session NoLoad (record { opens = refl; closes = λ label. refl })
-stop_tells setup limit history session slot label (Some grant) is early begun =
-    stopped_tells setup limit history session (horizon_of setup history) slot grant (nat_lt slot (horizon_of setup history)) grant.end (found (λ (g : Grant). same_label g.label label) (grants_of setup history) grant is).1 early begun
+stop_tells : (state : ManagerState) (limit session slot : ℕ) (label : Label) (o : Option Grant)
+    → find (λ grant. same_label grant.label label) (grants_at state) ≡ o → IsEarly state.setup limit slot
+    → BeginEarly state limit → Tells state limit session (stop_reply (horizon_at state) slot o)
+stop_tells state limit session slot label None is early begun =
+    quiet_tells state limit session NoLoad (record { opens = refl; closes = λ label. refl })
+stop_tells state limit session slot label (Some grant) is early begun =
+    stopped_tells state limit session (horizon_at state) slot grant (nat_lt slot (horizon_at state)) grant.end
+        (found (λ (g : Grant). same_label g.label label) (grants_at state) grant is).1 early begun
 
 -- what the reply to a session's next command tells
-pub reply_tells : (setup : Setup) (limit : ℕ) (history : List Entry) (session : ℕ) (command : Command) (reply : Reply) → StatesWithin setup limit → BeginEarly setup limit history → IsNext setup history session command reply → Tells setup limit history session reply
-reply_tells setup limit history session (Load name cycle) reply within begun next =
-    let label : Label = next_label setup session (count_of history session) in
-    let it = mapped (load_reply setup history label (granted_slot setup cycle)) (judged_of setup label) reply next.replied in
-    let more = loads_next (commands_of setup session) (count_of history session) (Load name cycle) next.at (λ none. cc) in
-    subst (λ (r : Reply). Tells setup limit history session r) it.2 (judged_tells setup limit history session it.0 (granted_slot setup cycle) it.1 more (stated_early setup limit session (count_of history session) (Load name cycle) within next.at))
-reply_tells setup limit history session (Stop load cycle) reply within begun next =
+pub reply_tells : (state : ManagerState) (limit session : ℕ) (command : Command) (reply : Reply)
+    → StatesWithin state.setup limit → BeginEarly state limit → IsNext state session command reply
+    → Tells state limit session reply
+reply_tells state limit session (Load name cycle) reply within begun next =
+    let label : Label = label_at state session in
+    let it = mapped (load_reply state.setup state.history label (granted_slot state.setup cycle))
+        (judged_of state.setup label) reply next.replied in
+    let more = loads_next (commands_at state session) (done_at state session) (Load name cycle) next.at
+        (λ none. cc) in
+    subst (λ (r : Reply). Tells state limit session r) it.2
+        (judged_tells state limit session it.0 (granted_slot state.setup cycle) it.1 more
+        (stated_early state.setup limit session (done_at state session) (Load name cycle) within next.at))
+reply_tells state limit session (Stop load cycle) reply within begun next =
     let label : Label = record { session = session; load = load } in
-    let slot : ℕ = granted_slot setup cycle in
-    let o : Option Grant = find (λ grant. same_label grant.label label) (grants_of setup history) in
-    let same : stop_reply (horizon_of setup history) slot o ≡ reply = same_Some _ reply next.replied in
-    subst (λ (r : Reply). Tells setup limit history session r) same (stop_tells setup limit history session slot label o refl (stated_early setup limit session (count_of history session) (Stop load cycle) within next.at) begun)
-reply_tells setup limit history session (Until cycle) reply within begun next =
+    let slot : ℕ = granted_slot state.setup cycle in
+    let o : Option Grant = find (λ grant. same_label grant.label label) (grants_at state) in
+    let same : stop_reply (horizon_at state) slot o ≡ reply = same_Some _ reply next.replied in
+    subst (λ (r : Reply). Tells state limit session r) same
+        (stop_tells state limit session slot label o refl
+        (stated_early state.setup limit session (done_at state session) (Stop load cycle) within next.at) begun)
+reply_tells state limit session (Until cycle) reply within begun next =
     let same = same_Some _ reply next.replied in
-    subst (λ (r : Reply). Tells setup limit history session r) same (quiet_tells setup limit history session _ (record { opens = refl; closes = λ label. refl }))
-
--- how the bundle was judged whose load and file were found
-pub judged_found : (setup : Setup) (label : Label) (load : LoadName) (named : Named) (judged : Result Bundle BRule) → find (λ l. same_label l.label label) setup.loads ≡ Some load → slice_get setup.world.catalog load.bundle ≡ Some named → named.judged ≡ judged → judged_of setup label ≡ Some judged
-judged_found setup label load named judged here file is =
-    ap (λ (o : Option LoadName). option_and_then (λ (l : LoadName). option_map (λ (n : Named). n.judged) (slice_get setup.world.catalog l.bundle)) o) here
-    ∙ ap (λ (o : Option Named). option_map (λ (n : Named). n.judged) o) file ∙ ap Some is
-
--- what the bundle of that file holds
-pub held_found : (world : World) (place : ℕ) (named : Named) (bundle : Bundle) → slice_get world.catalog place ≡ Some named → named.judged ≡ Ok bundle → option_map_or (resources_of world.platform) (bundle_at world place) [] ≡ resources_of world.platform bundle
-held_found world place named bundle file is =
-    ap (λ (o : Option Named). option_map_or (resources_of world.platform) (option_and_then (λ (n : Named). kept_bundle n.judged) o) []) file
-    ∙ ap (λ (j : Result Bundle BRule). option_map_or (resources_of world.platform) (kept_bundle j) []) is
-
-some_and : {X Y : Type 0} (f : X → Option Y) (o : Option X) → ((x : X) → o ≡ Some x → is_some (f x) ≡ true) → is_some o ≡ true → is_some (option_and_then f o) ≡ true
-some_and f None each there = cc
-some_and f (Some x) each there = each x refl
-
-some_map : {X Y : Type 0} (f : X → Y) (o : Option X) → is_some (option_map f o) ≡ is_some o
-some_map f None = refl
-some_map f (Some x) = refl
-
-some_at : {X : Type 0} (xs : List X) (i : ℕ) → i < length xs → is_some (slice_get xs i) ≡ true
-some_at xs i low =
-    elim (slice_get_cases xs i).1 [
-      | inl (x, below, at, is) ↦ ap is_some at
-      | inr (past, at) ↦ absurd (omega arith)
-    ]
-
--- each load command's load is among the loads, and its file in the catalog
-load_judged : (setup : Setup) (session n : ℕ) (command : Command) → slice_get (commands_of setup session) n ≡ Some command → loaded_name command ≢ None → is_some (judged_of setup (next_label setup session n)) ≡ true
-load_judged setup session n command at loads =
-    let label : Label = next_label setup session n in
-    let known = next_is_known setup session n command at loads in
-    let there = is_found (λ (l : LoadName). same_label l.label label) setup.loads known.0 known.1 (label_same known.0.label label known.2) in
-    some_and _ (find (λ l. same_label l.label label) setup.loads)
-    (λ load here.
-    let inside = (found (λ (l : LoadName). same_label l.label label) setup.loads load here).1 in
-    let low : load.bundle < length setup.world.catalog = All-contains (λ (l : LoadName). l.bundle < length setup.world.catalog) setup.loads load (loads_known setup) inside in
-    some_map (λ (n : Named). n.judged) (slice_get setup.world.catalog load.bundle) ∙ some_at setup.world.catalog load.bundle low)
-    there
-
--- each command is answered
-is_replied : (setup : Setup) (history : List Entry) (session : ℕ) (command : Command) → slice_get (commands_of setup session) (count_of history session) ≡ Some command → is_some (reply_to setup history session command) ≡ true
-is_replied setup history session (Load name cycle) at =
-    some_map (load_reply setup history (next_label setup session (count_of history session)) (granted_slot setup cycle)) (judged_of setup (next_label setup session (count_of history session)))
-    ∙ load_judged setup session (count_of history session) (Load name cycle) at (λ none. cc)
-is_replied setup history session (Stop load cycle) at = refl
-is_replied setup history session (Until cycle) at = refl
-
--- a session whose next command has this reply has this next entry
-pub next_is : (setup : Setup) (history : List Entry) (session : ℕ) (command : Command) (reply : Reply) → slice_get (commands_of setup session) (count_of history session) ≡ Some command → reply_to setup history session command ≡ Some reply → next_entry setup history session ≡ Some (record { session = session; index = count_of history session + 1; reply = reply })
-unfolding next_entry
-next_is setup history session command reply at is =
-    let entry = λ (r : Reply). let e : Entry = record { session = session; index = count_of history session + 1; reply = r } in e in
-    ap (λ (o : Option Command). option_map entry (option_and_then (reply_to setup history session) o)) (numbered_next (commands_of setup session) (count_of history session) ∙ at)
-    ∙ ap (option_map entry) is
-
-some_next : (setup : Setup) (history : List Entry) (session : ℕ) → is_some (next_entry setup history session) ≡ is_some (option_and_then (reply_to setup history session) (slice_get (commands_of setup session) (count_of history session)))
-unfolding next_entry
-some_next setup history session =
-    some_map (λ (r : Reply). let e : Entry = record { session = session; index = count_of history session + 1; reply = r } in e) (option_and_then (reply_to setup history session) (numbered (commands_of setup session) (count_of history session + 1)))
-    ∙ ap (λ (o : Option Command). is_some (option_and_then (reply_to setup history session) o)) (numbered_next (commands_of setup session) (count_of history session))
-
--- a session has no next entry just where its script is used up
-pub next_none : (setup : Setup) (history : List Entry) (session : ℕ) → IsNone (next_entry setup history session) ↔ IsTrue (is_used_up setup history session)
-next_none setup history session =
-    let commands : List Command = commands_of setup session in
-    let count : ℕ = count_of history session in
-    elim (slice_get_cases commands count).1 [
-      | inl (command, below, at, is) ↦
-          let next : is_some (next_entry setup history session) ≡ true =
-          some_next setup history session ∙ ap (λ (o : Option Command). is_some (option_and_then (reply_to setup history session) o)) at ∙ is_replied setup history session command at in
-          (λ none. absurd (false≢true (sym none ∙ next)), λ used. let past = leb-true (length commands) count used in absurd (omega arith))
-      | inr (past, at) ↦
-          let next : is_some (next_entry setup history session) ≡ false =
-          some_next setup history session ∙ ap (λ (o : Option Command). is_some (option_and_then (reply_to setup history session) o)) at in
-          (λ none. le-leb (length commands) count past, λ used. next)
-    ]
+    subst (λ (r : Reply). Tells state limit session r) same
+        (quiet_tells state limit session _ (record { opens = refl; closes = λ label. refl }))

@@ -9,6 +9,7 @@ use Rattle.std.proofs.lemmas.List.Quantifiers.{all_pairs_push}
 use Rattle.std.proofs.lemmas.List.Sums.{sum_by-cons}
 use Rattle.std.proofs.lemmas.List.Elements.{All-nil, All-head, All-tail, All-push, All-map, All-contains, All-append, Contains-get_or}
 use Rattle.std.proofs.lemmas.Option.{slice_get_within}
+use Rattle.soc_base.specs.declared.limits.TheConstants.{LAST_CYCLE}
 use Rattle.soc_base.specs.declared.label.Label.{Label}
 use Rattle.bundle_model.specs.declared.world.LoadName.{LoadName}
 use Rattle.bundle_model.specs.declared.world.Grant.{Grant}
@@ -23,24 +24,32 @@ use Rattle.vep_manager.specs.declared.reply.Entry.{Entry}
 use Rattle.vep_manager.specs.Loads.{loaded_names}
 use Rattle.vep_manager.specs.History.{until_slot, promise_of, sessions_of, horizon_of, commands_of, count_of, end_by, end_in, grants_of}
 use Rattle.vep_manager.specs.Replies.{next_label, next_entry}
-use Rattle.vep_manager.specs.Setup.{IsSound, last_cycle, StatesWithin, command_count}
+use Rattle.vep_manager.specs.Setup.{IsSound, StatesWithin, command_count}
 use Rattle.vep_manager.specs.Legal.{IsLegal, IsComplete}
 use Rattle.vep_manager.specs.Granted.{IsEarly, EndsEarly, AreGranted}
-use Rattle.vep_manager.specs.Kept.{ended_by, opened_by}
+use Rattle.vep_manager.specs.Manager.{ManagerState}
+use Rattle.vep_manager.specs.inner.Keeping.{ended_by, grants_after, opened_by}
+use Rattle.vep_manager.proofs.States.{held, grown, grants_at, horizon_at, commands_at, done_at, label_at, reply_at, next_at, IsNextEntry, loads_before, OneMoreLoad}
 use Rattle.vep_manager.proofs.Lists.{pairs_map, pairs_none, split_last, fewer}
 use Rattle.vep_manager.proofs.SetupLemmas.{script_of, numbered_next}
 use Rattle.vep_manager.proofs.Growth.{count_of-append, end_in-append, grants_of-append, loads_grow}
 use Rattle.vep_manager.proofs.Replied.{next_command, Opens, Closes, Tells, reply_tells}
 
 -- what holds before the first command and is kept by each command holds of a legal history
-go_on : (setup : Setup) (P : List Entry → Type 0) → ((before : List Entry) (entry : Entry) → next_entry setup before entry.session ≡ Some entry → P before → P (before ++ entry ∷ [])) → (before after : List Entry) → IsLegal setup (before ++ after) → P before → P (before ++ after)
+go_on : (setup : Setup) (P : List Entry → Type 0)
+    → ((before : List Entry) (entry : Entry) → next_entry setup before entry.session ≡ Some entry → P before
+        → P (before ++ entry ∷ []))
+    → (before after : List Entry) → IsLegal setup (before ++ after) → P before → P (before ++ after)
 go_on setup P step before [] legal here = subst P (sym (append-nil before)) here
 go_on setup P step before (entry ∷ after) legal here =
     let whole : (before ++ entry ∷ []) ++ after ≡ before ++ entry ∷ after = append_assoc before (entry ∷ []) after in
     let next = step before entry (legal before entry after refl) here in
     subst P whole (go_on setup P step (before ++ entry ∷ []) after (subst (IsLegal setup) (sym whole) legal) next)
 
-pub legal_steps : (setup : Setup) (P : List Entry → Type 0) → P [] → ((before : List Entry) (entry : Entry) → next_entry setup before entry.session ≡ Some entry → P before → P (before ++ entry ∷ [])) → (history : List Entry) → IsLegal setup history → P history
+pub legal_steps : (setup : Setup) (P : List Entry → Type 0) → P []
+    → ((before : List Entry) (entry : Entry) → next_entry setup before entry.session ≡ Some entry → P before
+        → P (before ++ entry ∷ []))
+    → (history : List Entry) → IsLegal setup history → P history
 legal_steps setup P none step history legal = go_on setup P step [] history legal none
 
 -- no entry is a legal history
@@ -49,19 +58,22 @@ legal_none setup [] entry after e = cc
 legal_none setup (first ∷ before) entry after e = cc
 
 -- a legal history with the next entry of a session is legal
-pub legal_more : (setup : Setup) (history : List Entry) (entry : Entry) → IsLegal setup history → next_entry setup history entry.session ≡ Some entry → IsLegal setup (history ++ entry ∷ [])
+pub legal_more : (setup : Setup) (history : List Entry) (entry : Entry) → IsLegal setup history
+    → next_entry setup history entry.session ≡ Some entry → IsLegal setup (history ++ entry ∷ [])
 legal_more setup history entry legal next before other after e =
     elim (split_last history entry before other after e) [
-      | inl (front, last) ↦ subst (λ (x : Entry). next_entry setup before x.session ≡ Some x) last (subst (λ (h : List Entry). next_entry setup h entry.session ≡ Some entry) front next)
+      | inl (front, last) ↦ subst (λ (x : Entry). next_entry setup before x.session ≡ Some x) last
+          (subst (λ (h : List Entry). next_entry setup h entry.session ≡ Some entry) front next)
       | inr (rest, is) ↦ legal before other rest is
     ]
 
 -- a label of one of the loads that were committed
-abbrev pub IsNumbered : Setup → List Entry → Label → Type 0
-IsNumbered setup history label = label.load ≤ length (loaded_names (take (count_of history label.session) (commands_of setup label.session)))
+abbrev pub IsNumbered : ManagerState → Label → Type 0
+IsNumbered state label = label.load ≤ loads_before state label.session (done_at state label.session)
 
-abbrev pub NoneNumbered : Setup → List Entry → Type 0
-NoneNumbered setup history = (label : Label) (end : ℕ) → end_in history label ≡ Some end → IsNumbered setup history label
+-- each load that the history stops was committed
+abbrev pub NoneNumbered : ManagerState → Type 0
+NoneNumbered state = (label : Label) (end : ℕ) → end_in state.history label ≡ Some end → IsNumbered state label
 
 -- how many commands of some sessions stand in a history
 abbrev pub counts : List Entry → ℕ → ℕ → ℕ
@@ -69,43 +81,47 @@ counts history from zero = 0
 counts history from (suc sessions) = count_of history from + counts history (from + 1) sessions
 
 -- what is true of a legal history whose commands state no cycle above a limit
-pub record Standing (setup : Setup) (limit : ℕ) (history : List Entry) : Type 0 where
-  pub apart : IsApart setup.world (grants_of setup history)
-  pub of_loads : AreOfLoads setup.loads (grants_of setup history)
-  pub begin_early : All (λ grant. IsEarly setup limit grant.start) (grants_of setup history)
-  pub end_early : All (EndsEarly setup limit) (grants_of setup history)
-  pub numbered : All (λ grant. IsNumbered setup history grant.label) (grants_of setup history)
-  pub ended : NoneNumbered setup history
-  pub within : (session : ℕ) → count_of history session ≤ length (commands_of setup session)
-  pub total : length history ≡ counts history 1 (length setup.scripts)
+pub record Standing (state : ManagerState) (limit : ℕ) : Type 0 where
+  pub apart : IsApart state.setup.world (grants_at state)
+  pub of_loads : AreOfLoads state.setup.loads (grants_at state)
+  pub begin_early : All (λ grant. IsEarly state.setup limit grant.start) (grants_at state)
+  pub end_early : All (EndsEarly state.setup limit) (grants_at state)
+  pub numbered : All (λ grant. IsNumbered state grant.label) (grants_at state)
+  pub ended : NoneNumbered state
+  pub within : (session : ℕ) → done_at state session ≤ length (commands_at state session)
+  pub total : length state.history ≡ counts state.history 1 (length state.setup.scripts)
 
 counts_none : (from sessions : ℕ) → counts [] from sessions ≡ 0
 counts_none from zero = refl
 counts_none from (suc sessions) = let rest = counts_none (from + 1) sessions in omega (arith, rest)
 
-pub standing_none : (setup : Setup) (limit : ℕ) → Standing setup limit []
+pub standing_none : (setup : Setup) (limit : ℕ) → Standing (held setup []) limit
 unfolding grants_of
 standing_none setup limit = record {
   apart = record {
     known = All-nil (λ grant. IsSome (bundle_at setup.world grant.bundle));
     labelled = pairs_none (λ (one other : Grant). one.label ≢ other.label);
     in_order = All-nil (λ (grant : Grant). IfSome grant.end (λ end. grant.start ≤ end));
-    apart = pairs_none (λ one other. IsTrue (do_meet setup.world one other) → EndsBefore one other ⊎ EndsBefore other one);
+    apart = pairs_none (λ one other. IsTrue (do_meet setup.world one other)
+        → EndsBefore one other ⊎ EndsBefore other one);
   };
-  of_loads = All-nil (λ (grant : Grant). Contains setup.loads (record { label = grant.label; bundle = grant.bundle }));
+  of_loads = All-nil (λ (grant : Grant). Contains setup.loads
+      (record { label = grant.label; bundle = grant.bundle }));
   begin_early = All-nil (λ (grant : Grant). IsEarly setup limit grant.start);
   end_early = All-nil (EndsEarly setup limit);
-  numbered = All-nil (λ (grant : Grant). IsNumbered setup [] grant.label);
+  numbered = All-nil (λ (grant : Grant). IsNumbered (held setup []) grant.label);
   ended = λ label end e. cc;
   within = λ session. omega arith;
   total = sym (counts_none 1 (length setup.scripts));
 }
 
 -- two grants with one label are one
-unique : (grants : List Grant) (one other : Grant) → AllPairs (λ one other. one.label ≢ other.label) grants → Contains grants one → Contains grants other → one.label ≡ other.label → one ≡ other
+unique : (grants : List Grant) (one other : Grant) → AllPairs (λ one other. one.label ≢ other.label) grants
+    → Contains grants one → Contains grants other → one.label ≡ other.label → one ≡ other
 unique grants one other apart (i, below, is) (j, low, at) same =
     let here : get_or grants j one ≡ other = get_or_default grants j one other low ∙ at in
-    let labels : (get_or grants i one).label ≡ (get_or grants j one).label = ap (λ (g : Grant). g.label) is ∙ same ∙ sym (ap (λ (g : Grant). g.label) here) in
+    let labels : (get_or grants i one).label ≡ (get_or grants j one).label =
+        ap (λ (g : Grant). g.label) is ∙ same ∙ sym (ap (λ (g : Grant). g.label) here) in
     elim (cases_lt i j) [
       | inl less ↦ absurd (apart i j one less low labels)
       | inr more ↦
@@ -117,24 +133,37 @@ unique grants one other apart (i, below, is) (j, low, at) same =
           ]
     ]
 
-count_grows : (history : List Entry) (entry : Entry) (session : ℕ) → count_of history session ≤ count_of (history ++ entry ∷ []) session
+count_grows : (history : List Entry) (entry : Entry) (session : ℕ)
+    → count_of history session ≤ count_of (history ++ entry ∷ []) session
 count_grows history entry session = omega (arith, count_of-append history entry session)
 
-numbered_more : (setup : Setup) (history : List Entry) (entry : Entry) (label : Label) → IsNumbered setup history label → IsNumbered setup (history ++ entry ∷ []) label
-numbered_more setup history entry label low =
-    let grows = loads_grow (commands_of setup label.session) (count_of history label.session) (count_of (history ++ entry ∷ []) label.session) (count_grows history entry label.session) in
+numbered_more : (state : ManagerState) (entry : Entry) (label : Label) → IsNumbered state label
+    → IsNumbered (grown state entry) label
+numbered_more state entry label low =
+    let grows = loads_grow (commands_of state.setup label.session) (count_of state.history label.session)
+        (count_of (state.history ++ entry ∷ []) label.session) (count_grows state.history entry label.session) in
     omega (arith, low, grows)
 
 -- a fact of each grant after a reply
-all_after : (setup : Setup) (reply : Reply) (o : Option Grant) (grants : List Grant) (Q : Grant → Type 0) → ((k : ℕ) (d : Grant) → k < length grants → Q (ended_by reply (get_or grants k d))) → IfSome o Q → All Q (map (ended_by reply) grants ++ option_to_list o)
-all_after setup reply None grants Q old new = All-append Q (map (ended_by reply) grants) [] (All-map Q (ended_by reply) grants old) (All-nil Q)
-all_after setup reply (Some grant) grants Q old new = All-push Q (map (ended_by reply) grants) grant (All-map Q (ended_by reply) grants old) new
+all_after : (setup : Setup) (reply : Reply) (o : Option Grant) (grants : List Grant) (Q : Grant → Type 0)
+    → ((k : ℕ) (d : Grant) → k < length grants → Q (ended_by reply (get_or grants k d))) → IfSome o Q
+    → All Q (map (ended_by reply) grants ++ option_to_list o)
+all_after setup reply None grants Q old new =
+    All-append Q (map (ended_by reply) grants) [] (All-map Q (ended_by reply) grants old) (All-nil Q)
+all_after setup reply (Some grant) grants Q old new =
+    All-push Q (map (ended_by reply) grants) grant (All-map Q (ended_by reply) grants old) new
 
 -- a fact of each pair of grants after a reply
-pairs_after : (reply : Reply) (o : Option Grant) (grants : List Grant) (S : Grant → Grant → Type 0) → ((one other : Grant) → S one other → S (ended_by reply one) (ended_by reply other)) → AllPairs S grants → IfSome o (λ grant. (k : ℕ) (d : Grant) → k < length grants → S (ended_by reply (get_or grants k d)) grant) → AllPairs S (map (ended_by reply) grants ++ option_to_list o)
-pairs_after reply None grants S stays old new = subst (AllPairs S) (sym (append-nil (map (ended_by reply) grants))) (pairs_map S S (ended_by reply) stays grants old)
+pairs_after : (reply : Reply) (o : Option Grant) (grants : List Grant) (S : Grant → Grant → Type 0)
+    → ((one other : Grant) → S one other → S (ended_by reply one) (ended_by reply other)) → AllPairs S grants
+    → IfSome o (λ grant. (k : ℕ) (d : Grant) → k < length grants → S (ended_by reply (get_or grants k d)) grant)
+    → AllPairs S (map (ended_by reply) grants ++ option_to_list o)
+pairs_after reply None grants S stays old new =
+    subst (AllPairs S) (sym (append-nil (map (ended_by reply) grants)))
+    (pairs_map S S (ended_by reply) stays grants old)
 pairs_after reply (Some grant) grants S stays old new =
-    all_pairs_push S (map (ended_by reply) grants) grant (pairs_map S S (ended_by reply) stays grants old) (All-map (λ (one : Grant). S one grant) (ended_by reply) grants new)
+    all_pairs_push S (map (ended_by reply) grants) grant (pairs_map S S (ended_by reply) stays grants old)
+        (All-map (λ (one : Grant). S one grant) (ended_by reply) grants new)
 
 if_weaker : {X : Type 0} (o : Option X) (P Q : X → Type 0) → ((x : X) → P x → Q x) → IfSome o P → IfSome o Q
 if_weaker None P Q weaker here = here
@@ -156,22 +185,31 @@ or_some : (a b : Option ℕ) (n : ℕ) → option_or a b ≡ Some n → (a ≡ S
 or_some None b n e = inr e
 or_some (Some m) b n e = inl e
 
-count_here : (history : List Entry) (entry : Entry) → count_of (history ++ entry ∷ []) entry.session ≡ count_of history entry.session + 1
-count_here history entry = count_of-append history entry entry.session ∙ ap (λ b. count_of history entry.session + cond b 1 0) (eq-eqb entry.session entry.session refl)
+count_here : (history : List Entry) (entry : Entry)
+    → count_of (history ++ entry ∷ []) entry.session ≡ count_of history entry.session + 1
+count_here history entry =
+    count_of-append history entry entry.session
+    ∙ ap (λ b. count_of history entry.session + cond b 1 0) (eq-eqb entry.session entry.session refl)
 
-count_there : (history : List Entry) (entry : Entry) (session : ℕ) → entry.session ≢ session → count_of (history ++ entry ∷ []) session ≡ count_of history session
+count_there : (history : List Entry) (entry : Entry) (session : ℕ) → entry.session ≢ session
+    → count_of (history ++ entry ∷ []) session ≡ count_of history session
 count_there history entry session other =
     let same : count_of history session + 0 ≡ count_of history session = omega arith in
-    count_of-append history entry session ∙ ap (λ b. count_of history session + cond b 1 0) (ne_eqb entry.session session other) ∙ same
+    count_of-append history entry session
+        ∙ ap (λ b. count_of history session + cond b 1 0) (ne_eqb entry.session session other) ∙ same
 
 -- the count of a session that isn't among some
-counts_there : (history : List Entry) (entry : Entry) (from sessions : ℕ) → entry.session < from → counts (history ++ entry ∷ []) from sessions ≡ counts history from sessions
+counts_there : (history : List Entry) (entry : Entry) (from sessions : ℕ) → entry.session < from
+    → counts (history ++ entry ∷ []) from sessions ≡ counts history from sessions
 counts_there history entry from zero low = refl
 counts_there history entry from (suc sessions) low =
-    ap₂ (λ a b. a + b) (count_there history entry from (λ e. omega arith)) (counts_there history entry (from + 1) sessions (omega arith))
+    ap₂ (λ a b. a + b) (count_there history entry from (λ e. omega arith))
+        (counts_there history entry (from + 1) sessions (omega arith))
 
 -- one entry more of a session counts once
-counts_more : (history : List Entry) (entry : Entry) (from sessions : ℕ) → from ≤ entry.session → entry.session < from + sessions → counts (history ++ entry ∷ []) from sessions ≡ counts history from sessions + 1
+counts_more : (history : List Entry) (entry : Entry) (from sessions : ℕ) → from ≤ entry.session
+    → entry.session < from + sessions
+    → counts (history ++ entry ∷ []) from sessions ≡ counts history from sessions + 1
 counts_more history entry from zero low high = absurd (omega arith)
 counts_more history entry from (suc sessions) low high =
     elim (cases_lt from entry.session) [
@@ -181,26 +219,33 @@ counts_more history entry from (suc sessions) low high =
           omega (arith, here, later)
       | inr here ↦
           let same : entry.session ≡ from = omega arith in
-          let one : count_of (history ++ entry ∷ []) from ≡ count_of history from + 1 = subst (λ (s : ℕ). count_of (history ++ entry ∷ []) s ≡ count_of history s + 1) same (count_here history entry) in
+          let one : count_of (history ++ entry ∷ []) from ≡ count_of history from + 1 =
+              subst (λ (s : ℕ). count_of (history ++ entry ∷ []) s ≡ count_of history s + 1) same
+              (count_here history entry) in
           let later = counts_there history entry (from + 1) sessions (omega arith) in
           omega (arith, one, later)
     ]
 
-no_number : (setup : Setup) (history : List Entry) (session : ℕ) (label : Label) → label ≡ next_label setup session (count_of history session) → IsNumbered setup history label → ⊥
-no_number setup history session label is numbered =
-    let P : Label → Type 0 = λ l. IsNumbered setup history l in
-    let high : IsNumbered setup history (next_label setup session (count_of history session)) = subst P is numbered in
+no_number : (state : ManagerState) (session : ℕ) (label : Label) → label ≡ label_at state session
+    → IsNumbered state label → ⊥
+no_number state session label is numbered =
+    let P : Label → Type 0 = λ l. IsNumbered state l in
+    let high : IsNumbered state (label_at state session) = subst P is numbered in
     omega (arith, high)
 
-new_number : (setup : Setup) (limit : ℕ) (history : List Entry) (entry : Entry) (grant : Grant) → Opens setup limit history entry.session grant → IsNumbered setup (history ++ entry ∷ []) grant.label
-new_number setup limit history entry grant opens =
-    let count = ap (λ n. length (loaded_names (take n (commands_of setup entry.session)))) (count_here history entry) in
-    let high : IsNumbered setup (history ++ entry ∷ []) (next_label setup entry.session (count_of history entry.session)) = omega (arith, count, opens.more) in
-    subst (λ (l : Label). IsNumbered setup (history ++ entry ∷ []) l) (sym opens.label) high
+new_number : (state : ManagerState) (limit : ℕ) (entry : Entry) (grant : Grant)
+    → Opens state limit entry.session grant → IsNumbered (grown state entry) grant.label
+new_number state limit entry grant opens =
+    let count = ap (λ n. length (loaded_names (take n (commands_at state entry.session))))
+        (count_here state.history entry) in
+    let high : IsNumbered (grown state entry) (label_at state entry.session) = omega (arith, count, opens.more) in
+    subst (λ (l : Label). IsNumbered (grown state entry) l) (sym opens.label) high
 
-fresh_label : (setup : Setup) (limit : ℕ) (history : List Entry) (session : ℕ) (reply : Reply) (label : Label) (start : ℕ) → Tells setup limit history session reply → reply ≡ Granted label start → label ≡ next_label setup session (count_of history session)
-fresh_label setup limit history session reply label start tells is =
-    let here : IfSome (opened_by setup (Granted label start)) (Opens setup limit history session) = subst (λ (r : Reply). IfSome (opened_by setup r) (Opens setup limit history session)) is tells.opens in
+fresh_label : (state : ManagerState) (limit session : ℕ) (reply : Reply) (label : Label) (start : ℕ)
+    → Tells state limit session reply → reply ≡ Granted label start → label ≡ label_at state session
+fresh_label state limit session reply label start tells is =
+    let here : IfSome (opened_by state.setup (Granted label start)) (Opens state limit session) =
+        subst (λ (r : Reply). IfSome (opened_by state.setup r) (Opens state limit session)) is tells.opens in
     here.label
 
 no_end : (o : Option ℕ) → ((n : ℕ) → o ≡ Some n → ⊥) → o ≡ None
@@ -208,16 +253,20 @@ no_end None never = refl
 no_end (Some n) never = absurd (never n refl)
 
 -- the grant that a reply ends is the one of its label
-closed_here : (setup : Setup) (limit : ℕ) (history : List Entry) (grant : Grant) (end : ℕ) → IsApart setup.world (grants_of setup history) → Contains (grants_of setup history) grant → Closes setup limit history grant.label end → grant.start ≤ end
-closed_here setup limit history grant end apart inside closes =
-    let same : closes.grant ≡ grant = unique (grants_of setup history) closes.grant grant apart.labelled closes.inside inside closes.named in
+closed_here : (state : ManagerState) (limit : ℕ) (grant : Grant) (end : ℕ)
+    → IsApart state.setup.world (grants_at state) → Contains (grants_at state) grant
+    → Closes state limit grant.label end → grant.start ≤ end
+closed_here state limit grant end apart inside closes =
+    let same : closes.grant ≡ grant =
+        unique (grants_at state) closes.grant grant apart.labelled closes.inside inside closes.named in
     let start : closes.grant.start ≡ grant.start = ap (λ (g : Grant). g.start) same in
     omega (arith, start, closes.after)
 
 abbrev Meets : Setup → Grant → Grant → Type 0
 Meets setup one other = IsTrue (do_meet setup.world one other) → EndsBefore one other ⊎ EndsBefore other one
 
-meets_stay : (setup : Setup) (reply : Reply) (one other : Grant) → Meets setup one other → Meets setup (ended_by reply one) (ended_by reply other)
+meets_stay : (setup : Setup) (reply : Reply) (one other : Grant) → Meets setup one other
+    → Meets setup (ended_by reply one) (ended_by reply other)
 meets_stay setup reply one other before meet =
     elim (before meet) [
       | inl ends ↦ inl (and_or one.end (end_by one.label reply) (λ end. end < other.start) ends)
@@ -225,145 +274,119 @@ meets_stay setup reply one other before meet =
     ]
 
 -- the grants after a reply, which are apart where they were
-apart_after : (setup : Setup) (limit : ℕ) (history : List Entry) (session : ℕ) (reply : Reply) → Standing setup limit history → Tells setup limit history session reply → IsApart setup.world (map (ended_by reply) (grants_of setup history) ++ option_to_list (opened_by setup reply))
-apart_after setup limit history session reply before tells =
-    let grants : List Grant = grants_of setup history in
-    let O : Grant → Type 0 = Opens setup limit history session in
+apart_after : (state : ManagerState) (limit session : ℕ) (reply : Reply) → Standing state limit
+    → Tells state limit session reply → IsApart state.setup.world (grants_after state.setup reply (grants_at state))
+apart_after state limit session reply before tells =
+    let grants : List Grant = grants_at state in
+    let O : Grant → Type 0 = Opens state limit session in
     record {
-      known = all_after setup reply (opened_by setup reply) grants (λ grant. IsSome (bundle_at setup.world grant.bundle)) before.apart.known (if_weaker (opened_by setup reply) O (λ grant. IsSome (bundle_at setup.world grant.bundle)) (λ grant opens. opens.known) tells.opens);
-      labelled = pairs_after reply (opened_by setup reply) grants (λ one other. one.label ≢ other.label) (λ one other apart. apart) before.apart.labelled
-          (if_weaker (opened_by setup reply) O _ (λ grant opens k d below same. no_number setup history session (get_or grants k d).label (same ∙ opens.label) (before.numbered k d below)) tells.opens);
-      in_order = all_after setup reply (opened_by setup reply) grants (λ grant. IfSome grant.end (λ end. grant.start ≤ end))
-          (λ k d below. if_or (get_or grants k d).end (end_by (get_or grants k d).label reply) (λ end. (get_or grants k d).start ≤ end) (before.apart.in_order k d below) (λ end e. closed_here setup limit history (get_or grants k d) end before.apart (Contains-get_or grants k d below) (tells.closes (get_or grants k d).label end e)))
-          (if_weaker (opened_by setup reply) O (λ grant. IfSome grant.end (λ end. grant.start ≤ end)) (λ grant opens. subst (λ (o : Option ℕ). IfSome o (λ end. grant.start ≤ end)) (sym opens.endless) tt) tells.opens);
-      apart = pairs_after reply (opened_by setup reply) grants (Meets setup) (meets_stay setup reply) before.apart.apart
-          (if_weaker (opened_by setup reply) O _ (λ grant opens k d below meet. inl (and_or (get_or grants k d).end (end_by (get_or grants k d).label reply) (λ end. end < grant.start) (opens.clear (get_or grants k d) (Contains-get_or grants k d below) meet))) tells.opens);
+      known = all_after state.setup reply (opened_by state.setup reply) grants
+          (λ grant. IsSome (bundle_at state.setup.world grant.bundle)) before.apart.known
+          (if_weaker (opened_by state.setup reply) O (λ grant. IsSome (bundle_at state.setup.world grant.bundle))
+          (λ grant opens. opens.known) tells.opens);
+      labelled = pairs_after reply (opened_by state.setup reply) grants (λ one other. one.label ≢ other.label)
+          (λ one other apart. apart) before.apart.labelled
+          (if_weaker (opened_by state.setup reply) O _
+              (λ grant opens k d below same. no_number state session (get_or grants k d).label (same ∙ opens.label)
+              (before.numbered k d below)) tells.opens);
+      in_order = all_after state.setup reply (opened_by state.setup reply) grants
+          (λ grant. IfSome grant.end (λ end. grant.start ≤ end))
+          (λ k d below. if_or (get_or grants k d).end (end_by (get_or grants k d).label reply)
+              (λ end. (get_or grants k d).start ≤ end) (before.apart.in_order k d below)
+              (λ end e. closed_here state limit (get_or grants k d) end before.apart
+              (Contains-get_or grants k d below) (tells.closes (get_or grants k d).label end e)))
+          (if_weaker (opened_by state.setup reply) O (λ grant. IfSome grant.end (λ end. grant.start ≤ end))
+              (λ grant opens. subst (λ (o : Option ℕ). IfSome o (λ end. grant.start ≤ end)) (sym opens.endless) tt)
+              tells.opens);
+      apart = pairs_after reply (opened_by state.setup reply) grants (Meets state.setup)
+          (meets_stay state.setup reply) before.apart.apart
+          (if_weaker (opened_by state.setup reply) O _
+              (λ grant opens k d below meet. inl
+              (and_or (get_or grants k d).end (end_by (get_or grants k d).label reply) (λ end. end < grant.start)
+              (opens.clear (get_or grants k d) (Contains-get_or grants k d below) meet))) tells.opens);
     }
 
-within_more : (setup : Setup) (history : List Entry) (entry : Entry) (command : Command) → slice_get (commands_of setup entry.session) (count_of history entry.session) ≡ Some command → ((session : ℕ) → count_of history session ≤ length (commands_of setup session)) → (session : ℕ) → count_of (history ++ entry ∷ []) session ≤ length (commands_of setup session)
-within_more setup history entry command at before session =
+within_more : (state : ManagerState) (entry : Entry) (command : Command)
+    → slice_get (commands_at state entry.session) (done_at state entry.session) ≡ Some command
+    → ((session : ℕ) → done_at state session ≤ length (commands_at state session)) → (session : ℕ)
+    → count_of (state.history ++ entry ∷ []) session ≤ length (commands_at state session)
+within_more state entry command at before session =
     elim (cases_eq entry.session session) [
       | inl same ↦
-          let low = slice_get_within (commands_of setup entry.session) (count_of history entry.session) command at in
-          subst (λ (s : ℕ). count_of (history ++ entry ∷ []) s ≤ length (commands_of setup s)) same (omega (arith, low, count_here history entry))
-      | inr other ↦ omega (arith, before session, count_there history entry session other)
+          let low = slice_get_within (commands_at state entry.session) (done_at state entry.session) command at in
+          subst (λ (s : ℕ). count_of (state.history ++ entry ∷ []) s ≤ length (commands_of state.setup s)) same
+              (omega (arith, low, count_here state.history entry))
+      | inr other ↦ omega (arith, before session, count_there state.history entry session other)
     ]
 
 -- the grants after the next entry
-pub grants_more : (setup : Setup) (limit : ℕ) (history : List Entry) (entry : Entry) → StatesWithin setup limit → next_entry setup history entry.session ≡ Some entry → Standing setup limit history → grants_of setup (history ++ entry ∷ []) ≡ map (ended_by entry.reply) (grants_of setup history) ++ option_to_list (opened_by setup entry.reply)
-grants_more setup limit history entry within next before =
-    let it = next_command setup history entry next in
-    let tells = reply_tells setup limit history entry.session it.0 entry.reply within before.begin_early it.1 in
+pub grants_more : (state : ManagerState) (limit : ℕ) (entry : Entry) → StatesWithin state.setup limit
+    → IsNextEntry state entry → Standing state limit
+    → grants_at (grown state entry) ≡ grants_after state.setup entry.reply (grants_at state)
+grants_more state limit entry within next before =
+    let it = next_command state entry next in
+    let tells = reply_tells state limit entry.session it.0 entry.reply within before.begin_early it.1 in
     let fresh = λ (label : Label) (start : ℕ) (is : entry.reply ≡ Granted label start).
-    no_end (end_in history label) (λ end e. no_number setup history entry.session label (fresh_label setup limit history entry.session entry.reply label start tells is) (before.ended label end e)) in
-    grants_of-append setup history entry fresh
+    no_end (end_in state.history label)
+        (λ end e. no_number state entry.session label
+        (fresh_label state limit entry.session entry.reply label start tells is) (before.ended label end e)) in
+    grants_of-append state.setup state.history entry fresh
 
-pub standing_more : (setup : Setup) (limit : ℕ) (history : List Entry) (entry : Entry) → StatesWithin setup limit → next_entry setup history entry.session ≡ Some entry → Standing setup limit history → Standing setup limit (history ++ entry ∷ [])
-standing_more setup limit history entry within next before =
+pub standing_more : (state : ManagerState) (limit : ℕ) (entry : Entry) → StatesWithin state.setup limit
+    → IsNextEntry state entry → Standing state limit → Standing (grown state entry) limit
+standing_more state limit entry within next before =
     let reply : Reply = entry.reply in
-    let o : Option Grant = opened_by setup reply in
-    let O : Grant → Type 0 = Opens setup limit history entry.session in
-    let it = next_command setup history entry next in
-    let tells = reply_tells setup limit history entry.session it.0 reply within before.begin_early it.1 in
-    let grants : List Grant = grants_of setup history in
-    let after : List Entry = history ++ entry ∷ [] in
-    let grown : grants_of setup after ≡ map (ended_by reply) grants ++ option_to_list o = grants_more setup limit history entry within next before in
-    let all : (Q : Grant → Type 0) → ((k : ℕ) (d : Grant) → k < length grants → Q (ended_by reply (get_or grants k d))) → ((grant : Grant) → O grant → Q grant) → All Q (grants_of setup after) = λ Q old new.
-    subst (λ (l : List Grant). All Q l) (sym grown) (all_after setup reply o grants Q old (if_weaker o O Q new tells.opens)) in
-    let script = script_of setup entry.session (count_of history entry.session) it.0 it.1.at in
+    let o : Option Grant = opened_by state.setup reply in
+    let O : Grant → Type 0 = Opens state limit entry.session in
+    let it = next_command state entry next in
+    let tells = reply_tells state limit entry.session it.0 reply within before.begin_early it.1 in
+    let grants : List Grant = grants_at state in
+    let opened : grants_at (grown state entry) ≡ map (ended_by reply) grants ++ option_to_list o =
+        grants_more state limit entry within next before in
+    let all : (Q : Grant → Type 0)
+        → ((k : ℕ) (d : Grant) → k < length grants → Q (ended_by reply (get_or grants k d)))
+        → ((grant : Grant) → O grant → Q grant) → All Q (grants_at (grown state entry)) = λ Q old new.
+    subst (λ (l : List Grant). All Q l) (sym opened)
+        (all_after state.setup reply o grants Q old (if_weaker o O Q new tells.opens)) in
+    let script = script_of state.setup entry.session (done_at state entry.session) it.0 it.1.at in
     record {
-      apart = subst (IsApart setup.world) (sym grown) (apart_after setup limit history entry.session reply before tells);
-      of_loads = all (λ grant. Contains setup.loads (record { label = grant.label; bundle = grant.bundle })) before.of_loads (λ grant opens. opens.of_loads);
-      begin_early = all (λ grant. IsEarly setup limit grant.start) before.begin_early (λ grant opens. opens.early);
-      end_early = all (EndsEarly setup limit)
-          (λ k d below. if_or (get_or grants k d).end (end_by (get_or grants k d).label reply) (λ end. IsEarly setup limit end) (before.end_early k d below) (λ end e. (tells.closes (get_or grants k d).label end e).early))
-          (λ grant opens. subst (λ (e : Option ℕ). IfSome e (λ end. IsEarly setup limit end)) (sym opens.endless) tt);
-      numbered = all (λ grant. IsNumbered setup after grant.label) (λ k d below. numbered_more setup history entry (get_or grants k d).label (before.numbered k d below)) (new_number setup limit history entry);
+      apart = subst (IsApart state.setup.world) (sym opened)
+          (apart_after state limit entry.session reply before tells);
+      of_loads = all (λ grant. Contains state.setup.loads (record { label = grant.label; bundle = grant.bundle }))
+          before.of_loads (λ grant opens. opens.of_loads);
+      begin_early = all (λ grant. IsEarly state.setup limit grant.start) before.begin_early
+          (λ grant opens. opens.early);
+      end_early = all (EndsEarly state.setup limit)
+          (λ k d below. if_or (get_or grants k d).end (end_by (get_or grants k d).label reply)
+              (λ end. IsEarly state.setup limit end) (before.end_early k d below)
+              (λ end e. (tells.closes (get_or grants k d).label end e).early))
+          (λ grant opens. subst (λ (e : Option ℕ). IfSome e (λ end. IsEarly state.setup limit end))
+              (sym opens.endless) tt);
+      numbered = all (λ grant. IsNumbered (grown state entry) grant.label)
+          (λ k d below. numbered_more state entry (get_or grants k d).label (before.numbered k d below))
+          (new_number state limit entry);
       ended = λ label end e.
-          elim (or_some (end_in history label) (end_by label reply) end (sym (end_in-append history entry label) ∙ e)) [
-            | inl old ↦ numbered_more setup history entry label (before.ended label end old)
+          elim (or_some (end_in state.history label) (end_by label reply) end
+              (sym (end_in-append state.history entry label) ∙ e)) [
+            | inl old ↦ numbered_more state entry label (before.ended label end old)
             | inr new ↦
                 let closes = tells.closes label end new in
-                numbered_more setup history entry label (subst (IsNumbered setup history) closes.named (All-contains (λ (g : Grant). IsNumbered setup history g.label) grants closes.grant before.numbered closes.inside))
+                numbered_more state entry label
+                    (subst (IsNumbered state) closes.named
+                    (All-contains (λ (g : Grant). IsNumbered state g.label) grants closes.grant before.numbered
+                    closes.inside))
           ];
-      within = within_more setup history entry it.0 it.1.at before.within;
+      within = within_more state entry it.0 it.1.at before.within;
       total =
-          let low = slice_get_within setup.scripts (entry.session - 1) script.0 script.1.there in
-          let more = counts_more history entry 1 (length setup.scripts) (omega (arith, script.1.counted)) (omega (arith, script.1.counted, low)) in
-          omega (arith, more, before.total, length-append history (entry ∷ []));
+          let low = slice_get_within state.setup.scripts (entry.session - 1) script.0 script.1.there in
+          let more = counts_more state.history entry 1 (length state.setup.scripts) (omega (arith, script.1.counted))
+              (omega (arith, script.1.counted, low)) in
+          omega (arith, more, before.total, length-append state.history (entry ∷ []));
     }
 
-pub standing : (setup : Setup) (limit : ℕ) → StatesWithin setup limit → (history : List Entry) → IsLegal setup history → Standing setup limit history
-standing setup limit within history legal =
-    legal_steps setup (Standing setup limit) (standing_none setup limit) (λ before entry next here. standing_more setup limit before entry within next here) history legal
-
--- the grants are no more than the loads
-pub few_grants : (setup : Setup) (limit : ℕ) (history : List Entry) → Standing setup limit history → length (grants_of setup history) ≤ length setup.loads
-few_grants setup limit history stands =
-    let name = λ (g : Grant). let load : LoadName = record { label = g.label; bundle = g.bundle } in load in
-    let apart = pairs_map (λ (one other : Grant). one.label ≢ other.label) (λ (one other : LoadName). one ≢ other) name (λ one other labels same. labels (ap (λ (l : LoadName). l.label) same)) (grants_of setup history) stands.apart.labelled in
-    let few = fewer (map name (grants_of setup history)) setup.loads apart (All-map (Contains setup.loads) name (grants_of setup history) stands.of_loads) in
-    omega (arith, few, length-map (grants_of setup history) name)
-
-counts_fit : (history : List Entry) (scripts : List Script) (from : ℕ) → ((place : ℕ) (script : Script) → slice_get scripts place ≡ Some script → count_of history (from + place) ≤ length script.commands) → counts history from (length scripts) ≤ sum_by (λ script. length script.commands) scripts
-counts_fit history [] from fit = omega arith
-counts_fit history (script ∷ scripts) from fit =
-    let here : count_of history (from + 0) ≤ length script.commands = fit 0 script refl in
-    let same : from + 0 ≡ from = omega arith in
-    let rest = counts_fit history scripts (from + 1) (λ place other at.
-    let shift : from + suc place ≡ from + 1 + place = omega arith in
-    subst (λ (s : ℕ). count_of history s ≤ length other.commands) shift (fit (suc place) other at)) in
-    omega (arith, here, ap (count_of history) same, rest, sum_by-cons (λ (s : Script). length s.commands) script scripts)
-
--- the entries are no more than the commands
-pub few_entries : (setup : Setup) (limit : ℕ) (history : List Entry) → Standing setup limit history → length history ≤ command_count setup
-few_entries setup limit history stands =
-    let fit = counts_fit history setup.scripts 1 (λ place script at.
-    let shift : 1 + place ≡ place + 1 = omega arith in
-    let commands : commands_of setup (1 + place) ≡ script.commands =
-    ap (commands_of setup) shift ∙ ap (λ (o : Option Script). option_map_or (λ (s : Script). s.commands) o []) (numbered_next setup.scripts place ∙ at) in
-    omega (arith, stands.within (1 + place), ap length commands)) in
-    omega (arith, fit, stands.total)
-
--- what holds of the grants
-pub granted : (setup : Setup) (limit : ℕ) (history : List Entry) → Standing setup limit history → AreGranted setup limit history
-granted setup limit history stands = record {
-  of_loads = stands.of_loads;
-  few = few_grants setup limit history stands;
-  begin_early = stands.begin_early;
-  end_early = stands.end_early;
-}
-
--- the grants of a legal history of a sound setup can all be kept
-pub legal_apart : (setup : Setup) → IsSound setup → (history : List Entry) → IsLegal setup history → IsApart setup.world (grants_of setup history)
-legal_apart setup sound history legal = (standing setup last_cycle sound.cycles history legal).apart
-
-pub legal_granted : (setup : Setup) (limit : ℕ) (history : List Entry) → StatesWithin setup limit → IsLegal setup history → AreGranted setup limit history
-legal_granted setup limit history within legal = granted setup limit history (standing setup limit within history legal)
-
--- each grant of a legal history of a sound setup is of one of the loads
-pub grants_of_loads : (setup : Setup) → IsSound setup → (history : List Entry) → IsLegal setup history → AreOfLoads setup.loads (grants_of setup history)
-grants_of_loads setup sound history legal = (standing setup last_cycle sound.cycles history legal).of_loads
-
-pub grants_none : (setup : Setup) → grants_of setup [] ≡ []
-unfolding grants_of
-grants_none setup = refl
-
-least_same : (setup : Setup) (done : ℕ → ℕ) (sessions : List ℕ) → All (λ session. promise_of setup session (done session) ≡ setup.budget) sessions → fold (λ least promise. min least promise) setup.budget (map (λ session. promise_of setup session (done session)) sessions) ≡ setup.budget
-least_same setup done [] same = refl
-least_same setup done (session ∷ sessions) same =
-    let here = All-head (λ session. promise_of setup session (done session) ≡ setup.budget) session sessions same in
-    let least : min setup.budget (promise_of setup session (done session)) ≡ setup.budget = omega (arith, here) in
-    ap (λ n. fold (λ least promise. min least promise) n (map (λ session. promise_of setup session (done session)) sessions)) least
-    ∙ least_same setup done sessions (All-tail (λ session. promise_of setup session (done session) ≡ setup.budget) session sessions same)
-
--- the horizon of a complete history is the budget
-pub horizon_complete : (setup : Setup) (history : List Entry) → IsComplete setup history → horizon_of setup history ≡ setup.budget
-unfolding horizon_of
-horizon_complete setup history complete =
-    let most = λ (session n : ℕ). fold (λ most slot. max most slot) 0 (filter_map (until_slot setup) (take n (commands_of setup session))) in
-    let all : All (λ session. promise_of setup session (count_of history session) ≡ setup.budget) (sessions_of setup) = λ k d below.
-    let session : ℕ = get_or (sessions_of setup) k d in
-    let used : nat_le (length (commands_of setup session)) (count_of history session) ≡ true = le-leb (length (commands_of setup session)) (count_of history session) (omega (arith, complete k d below)) in
-    ap (λ b. cond b setup.budget (min setup.budget (most session (count_of history session)))) used in
-    least_same setup (count_of history) (sessions_of setup) all
+pub standing : (state : ManagerState) (limit : ℕ) → StatesWithin state.setup limit → IsLegal state.setup state.history
+    → Standing state limit
+standing state limit within legal =
+    legal_steps state.setup (λ history. Standing (held state.setup history) limit) (standing_none state.setup limit)
+    (λ before entry next here. standing_more (held state.setup before) limit entry within next here) state.history
+        legal

@@ -37,9 +37,11 @@ commands_of setup session = option_map_or (λ script. script.commands) (numbered
 abbrev pub count_of : List Entry → ℕ → ℕ
 count_of history session = count_by (λ entry. entry.session == session) history
 
+-- whether every command of a session stands in a history
 abbrev pub is_used_up : Setup → List Entry → ℕ → Bool
 is_used_up setup history session = nat_le (length (commands_of setup session)) (count_of history session)
 
+-- the slot of an `until`
 abbrev pub until_slot : Setup → Command → Option ℕ
 until_slot setup (Load name cycle) = None
 until_slot setup (Stop load cycle) = None
@@ -51,11 +53,13 @@ until_slot setup (Until cycle) = Some (granted_slot setup cycle)
 abbrev pub promise_of : Setup → ℕ → ℕ → ℕ
 promise_of setup session done =
     if nat_le (length (commands_of setup session)) done then setup.budget
-    else min setup.budget (fold (λ most slot. max most slot) 0 (filter_map (until_slot setup) (take done (commands_of setup session))))
+    else min setup.budget
+        (fold (λ most slot. max most slot) 0 (filter_map (until_slot setup) (take done (commands_of setup session))))
 
 -- the least promise of the sessions, of which so many commands stand in the history
 abbrev pub horizon_with : Setup → (ℕ → ℕ) → ℕ
-horizon_with setup done = fold (λ least promise. min least promise) setup.budget (map (λ session. promise_of setup session (done session)) (sessions_of setup))
+horizon_with setup done = fold (λ least promise. min least promise) setup.budget
+    (map (λ session. promise_of setup session (done session)) (sessions_of setup))
 
 -- the horizon of a history: no later command changes what happens below it
 unfoldable pub horizon_of : Setup → List Entry → ℕ
@@ -78,15 +82,17 @@ end_in [] label = None
 end_in (entry ∷ history) label = option_or (end_by label entry.reply) (end_in history label)
 
 -- the bundle that a load names: its place in the catalog, 0 where there is no such load
-abbrev pub bundle_of : Setup → Label → ℕ
-bundle_of setup label = option_map_or (λ load. load.bundle) (find (λ load. same_label load.label label) setup.loads) 0
+abbrev pub loaded_place : Setup → Label → ℕ
+loaded_place setup label = option_map_or (λ load. load.bundle)
+    (find (λ load. same_label load.label label) setup.loads) 0
 
 -- the grant that a reply gives, with its end in the history
 abbrev pub grant_by : Setup → List Entry → Reply → Option Grant
 grant_by setup history (Malformed rule) = None
 grant_by setup history (Past horizon) = None
 grant_by setup history (Taken resource owner free_from) = None
-grant_by setup history (Granted label start) = Some (record { label = label; bundle = bundle_of setup label; start = start; end = end_in history label })
+grant_by setup history (Granted label start) = Some
+    (record { label = label; bundle = loaded_place setup label; start = start; end = end_in history label })
 grant_by setup history NoLoad = None
 grant_by setup history (Already end) = None
 grant_by setup history (Stopped label end) = None

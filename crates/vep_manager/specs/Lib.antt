@@ -4,6 +4,5 @@ pub mod History
 pub mod Replies
 pub mod Legal
 pub mod Granted
-pub mod Kept
-pub mod Claims
-pub mod Small
+pub mod Manager
+pub mod inner

@@ -9,8 +9,8 @@ use Rattle.script_file.specs.declared.command.Command.TheVariants.{Load, Stop, U
 use Rattle.script_file.specs.declared.command.Script.{Script}
 
 -- the place of the first bundle file of a name; the length of the catalog where there is none
-abbrev pub place_of : List Named → List ℕ → ℕ
-place_of catalog name = position_or_len (λ named. bytes_eq named.name name) catalog
+abbrev pub catalog_place : List Named → List ℕ → ℕ
+catalog_place catalog name = position_or_len (λ named. bytes_eq named.name name) catalog
 
 -- the bundle file that a load command names
 abbrev pub loaded_name : Command → Option (List ℕ)
@@ -26,14 +26,18 @@ loaded_names commands = filter_map loaded_name commands
 abbrev pub loads_from : List Named → ℕ → ℕ → List (List ℕ) → List LoadName
 loads_from catalog session number [] = []
 loads_from catalog session number (name ∷ names) =
-    record { label = record { session = session; load = number }; bundle = place_of catalog name }
+    record { label = record { session = session; load = number }; bundle = catalog_place catalog name }
     ∷ loads_from catalog session (number + 1) names
+
+-- the loads of a session with these commands
+abbrev pub loads_of_session : List Named → ℕ → List Command → List LoadName
+loads_of_session catalog session commands = loads_from catalog session 1 (loaded_names commands)
 
 -- the loads of sessions, numbered from `session` on
 abbrev pub session_loads : List Named → ℕ → List Script → List LoadName
 session_loads catalog session [] = []
 session_loads catalog session (script ∷ scripts) =
-    loads_from catalog session 1 (loaded_names script.commands) ++ session_loads catalog (session + 1) scripts
+    loads_of_session catalog session script.commands ++ session_loads catalog (session + 1) scripts
 
 -- each load command of the sessions' scripts, by its session and its number among that session's load
 -- commands, both counted from 1, with the catalog's entry of its name

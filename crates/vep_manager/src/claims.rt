@@ -1,13 +1,13 @@
 //! What each bundle of a catalog holds of the platform.
 
-ghost use Rattle.std.specs.Prelude.{◌≡◌, ◌<◌, ◌^◌, [], find, IfOk, IfSome, All};
+ghost use Rattle.std.specs.Prelude.{◌≡◌, ◌<◌, ◌^◌, find, IfOk, IfSome, All};
 ghost use Rattle.std.specs.List.{list_any};
-ghost use Rattle.std.specs.Option.{option_copied, option_map_or};
-ghost use Rattle.bundle_model.specs.Grants.{lasts_to, conflicts, bundle_at};
-ghost use Rattle.bundle_model.specs.Resources.{meets_of, resources_of};
+ghost use Rattle.std.specs.Option.{option_copied};
+ghost use Rattle.bundle_model.specs.Grants.{lasts_to, conflicts};
+ghost use Rattle.bundle_model.specs.Resources.{meets_of};
 ghost use Rattle.bundle_model.specs.World.{IsSoundCatalog};
 ghost use Rattle.bundle_model.specs.WellFormed.{IsWellFormed};
-ghost use Rattle.vep_manager.specs.Claims.{HasSmallEnd, claimed_by, claims_of};
+ghost use Rattle.vep_manager.specs.inner.Claims.{HasSmallEnd, claimed_at, claimed_by, claims_of};
 ghost use Rattle.vep_manager.specs.Replies.{first_conflict, taken_by};
 
 use crate::reply::Reply;
@@ -28,7 +28,7 @@ pub struct Claims<'s> {
 impl<'s> Model for Claims<'s> {
     ghost use Rattle.bundle_model.specs.declared.world.World.{World};
     ghost use Rattle.std.specs.Prelude.{◌≡◌};
-    ghost use Rattle.vep_manager.specs.Claims.{claims_of};
+    ghost use Rattle.vep_manager.specs.inner.Claims.{claims_of};
 
     ghost Value = { World };
 
@@ -73,7 +73,7 @@ impl<'s> Claims<'s> {
     /// Answers what the bundle at a place of the catalog holds: nothing where it breaks a rule or there
     /// is none.
     pub fn of_bundle(&self, place: u16) -> &[Resource]
-        ensures { result.now ≡ option_map_or (resources_of self.now.platform) (bundle_at self.now place) [] }
+        ensures { result.now ≡ claimed_at self.now place }
     {
         match self.lists.get(usize::from(place)) {
             Some(list) => list.as_slice(),

@@ -4,12 +4,12 @@ ghost use Rattle.std.specs.Prelude.{◌≡◌, ℕ, ◌≤◌, ◌+◌, ◌==◌
 ghost use Rattle.std.specs.List.{filter_map};
 ghost use Rattle.std.specs.Option.{option_copied, option_to_list};
 ghost use Rattle.vep_manager.specs.History.{IsSession, commands_of, count_of, granted_slot, until_slot, promise_of, horizon_with};
-ghost use Rattle.vep_manager.specs.Kept.{counted};
+ghost use Rattle.vep_manager.specs.inner.Keeping.{counted};
 
 use crate::reply::Entry;
 use crate::setup::Setup;
 use script_file::Command;
-use soc_base::slot_up;
+use soc_base::{MOST_COMMANDS, MOST_SCRIPTS, slot_up};
 
 /// Answers how many commands of a session stand in a history.
 pub fn count(history: &[Entry], session: u8) -> usize
@@ -51,7 +51,7 @@ fn promised(setup: &Setup, command: &Command) -> Option<u64>
 {
     match command {
         Command::Until { cycle } => Some(slot_for(setup, *cycle)),
-        _ => None,
+        Command::Load { .. } | Command::Stop { .. } => None,
     }
 }
 
@@ -90,10 +90,9 @@ fn promise(setup: &Setup, session: u8, done: usize) -> u64
     setup.budget.min(greatest(setup, &commands[..done]))
 }
 
-// How many commands of a session stand in a history to which `next` is about to add one more, if it
-// is a session.
+// How many commands of a session stand in a history; one more where the session is `next`.
 fn with_next(history: &[Entry], next: Option<u8>, session: u8) -> usize
-    requires { length history.now ≤ 256 }
+    requires { length history.now ≤ MOST_COMMANDS }
     ensures { result ≡ counted next history.now session }
 {
     let done = count(history, session);
@@ -104,10 +103,10 @@ fn with_next(history: &[Entry], next: Option<u8>, session: u8) -> usize
     }
 }
 
-/// Answers the horizon of a history to which `next` is about to add a command, if one is given.
+/// Answers the horizon of a history, with one command more of session `next`, if one is given.
 pub fn horizon(setup: &Setup, history: &[Entry], next: Option<u8>) -> u64
-    requires sessions { length setup.now.scripts ≤ 16 }
-    requires few { length history.now ≤ 256 }
+    requires sessions { length setup.now.scripts ≤ MOST_SCRIPTS }
+    requires few { length history.now ≤ MOST_COMMANDS }
     ensures { result ≡ horizon_with setup.now (counted next history.now) }
 {
     let end = setup.scripts.len() as u8 + 1;

@@ -3,8 +3,9 @@
 //!
 //! `specs/Loads` names the load commands of a run, `specs/Setup` says what a sound setup is,
 //! `specs/History` what a history means (grants and horizon), `specs/Replies` what each command is
-//! answered, `specs/Legal` which histories are legal, complete and in rounds, and `specs/Granted` what is
-//! true of the grants of a legal history. `specs/Kept` says what a manager is seen as.
+//! answered, `specs/Legal` which histories are legal, complete and in rounds, `specs/Granted` what is true of
+//! the grants of a legal history, and `specs/Manager` what contracts see of a manager. `specs/inner` has
+//! what only clauses of private functions cite.
 #![tactic(auto)]
 
 /// What each bundle of a catalog holds.
@@ -16,7 +17,7 @@ mod horizon;
 /// The load commands of a run.
 mod loads;
 /// Laws of setups and histories.
-mod laws;
+mod theorems;
 /// Committing commands, one at a time.
 mod manager;
 /// What a command is answered.
@@ -28,7 +29,8 @@ mod setup;
 #[cfg(test)]
 mod tests;
 
-pub use laws::{
+pub use granting::reply_grant;
+pub use theorems::{
     complete_histories_are_settled, empty_history_is_legal, legal_grants_are_apart, loads_are_sound,
 };
 pub use loads::named_loads;

@@ -3,11 +3,12 @@
 ghost use Rattle.std.specs.Prelude.{◌≡◌, ◌≤◌, ◌+◌, ◌<◌, ◌^◌, ◌++◌, length, position, All, IfOk, OnOk};
 ghost use Rattle.std.specs.Option.{option_to_list};
 ghost use Rattle.std.specs.Str.{bytes_eq};
-ghost use Rattle.vep_manager.specs.Loads.{place_of, loaded_name, loaded_names, loads_from, loads_of};
+ghost use Rattle.vep_manager.specs.Loads.{catalog_place, loaded_name, loads_of, loads_of_session};
+ghost use Rattle.vep_manager.specs.inner.Loading.{load_as};
 
 use bundle_model::{LoadName, Named};
 use script_file::{Command, Script};
-use soc_base::{Label, NoMemory};
+use soc_base::{Label, MOST_COMMANDS, MOST_SCRIPTS, NoMemory};
 use std::alloc::Global;
 
 // The place of the first bundle file of a name, if there is one.
@@ -20,7 +21,7 @@ fn first_of(catalog: &[Named], name: &str) -> Option<usize>
 // The place of the first bundle file of a name; the length of the catalog where there is none.
 fn place(catalog: &[Named], name: &str) -> u16
     requires { length catalog.now < 2 ^ 16 }
-    ensures { result ≡ place_of catalog.now name.now }
+    ensures { result ≡ catalog_place catalog.now name.now }
 {
     match first_of(catalog, name) {
         Some(place) => place as u16,
@@ -36,8 +37,8 @@ fn add_command(
     command: &Command,
 ) -> Result<u16, NoMemory>
     requires catalog { length catalog.now < 2 ^ 16 }
-    requires few { label.load ≤ 256 }
-    ensures added { OnOk result (loads.new.items ≡ loads.old.items ++ loads_from catalog.now label.session label.load (option_to_list (loaded_name command.now))) }
+    requires few { label.load ≤ MOST_COMMANDS }
+    ensures added { OnOk result (loads.new.items ≡ loads.old.items ++ load_as catalog.now label command.now) }
     ensures next { IfOk result (λ next. next ≡ label.load + length (option_to_list (loaded_name command.now))) }
 {
     match command {
@@ -58,8 +59,8 @@ fn add_session(
     commands: &[Command],
 ) -> Result<(), NoMemory>
     requires catalog { length catalog.now < 2 ^ 16 }
-    requires few { length commands.now ≤ 256 }
-    ensures { OnOk result (loads.new.items ≡ loads.old.items ++ loads_from catalog.now session 1 (loaded_names commands.now)) }
+    requires few { length commands.now ≤ MOST_COMMANDS }
+    ensures { OnOk result (loads.new.items ≡ loads.old.items ++ loads_of_session catalog.now session commands.now) }
 {
     let mut load = 1;
     for command in commands {
@@ -77,8 +78,8 @@ pub fn named_loads(
     scripts: &[Script],
 ) -> Result<Vec<LoadName>, NoMemory>
     requires catalog { length catalog.now < 2 ^ 16 }
-    requires scripts { length scripts.now ≤ 16 }
-    requires commands { All (λ script. length script.commands ≤ 256) scripts.now }
+    requires scripts { length scripts.now ≤ MOST_SCRIPTS }
+    requires commands { All (λ script. length script.commands ≤ MOST_COMMANDS) scripts.now }
     ensures { IfOk result (λ loads. loads.items ≡ loads_of catalog.now scripts.now) }
 {
     let mut loads = Vec::new(alloc);

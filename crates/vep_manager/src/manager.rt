@@ -4,7 +4,8 @@ ghost use Rattle.std.specs.Prelude.{◌≡◌, ◌≤◌, ◌↔◌, ◌++◌, [
 ghost use Rattle.std.specs.Option.{option_to_list, option_map_or};
 ghost use Rattle.vep_manager.specs.Setup.{command_count};
 ghost use Rattle.vep_manager.specs.Replies.{stop_reply, fits_reply};
-ghost use Rattle.vep_manager.specs.Kept.{counted};
+ghost use Rattle.vep_manager.specs.inner.Keeping.{counted};
+ghost use Rattle.vep_manager.specs.inner.Claims.{claimed_at};
 
 use crate::claims::Claims;
 use crate::granting::{follow, load_count, named_grant, named_load};
@@ -13,7 +14,7 @@ use crate::reply::{Entry, Reply};
 use crate::setup::Setup;
 use bundle_model::{Grant, Schedule};
 use script_file::Command;
-use soc_base::{Label, NoMemory};
+use soc_base::{LAST_CYCLE, Label, MOST_COMMANDS, NoMemory};
 use std::alloc::Global;
 use std::marker::Model;
 
@@ -29,13 +30,17 @@ pub struct Manager<'s> {
 
 impl<'s> Model for Manager<'s> {
     ghost use Rattle.std.specs.Prelude.{◌≡◌, vec_capacity};
-    ghost use Rattle.vep_manager.specs.Kept.{Kept, IsKept};
+    ghost use Rattle.vep_manager.specs.Manager.{ManagerState};
+    ghost use Rattle.vep_manager.specs.inner.Keeping.{IsKept};
 
-    ghost Value = { Kept };
+    ghost Value = { ManagerState };
 
     ghost view = { λ m. record { setup = m.setup.now; history = m.history.items } };
 
-    ghost invariant = { λ m. IsKept m.setup.now m.history.items m.grants.items m.horizon (vec_capacity m.history) (vec_capacity m.grants) × (m.claims ≡ m.setup.now.world) };
+    ghost invariant = { λ m. IsKept (record { setup = m.setup.now; history = m.history.items })
+        (record { grants = m.grants.items; horizon = m.horizon;
+        entry_room = vec_capacity m.history; grant_room = vec_capacity m.grants })
+        × (m.claims ≡ m.setup.now.world) };
 }
 
 // The reply to a stop of a grant.
@@ -56,7 +61,7 @@ fn stopped(horizon: u64, slot: u64, grant: &Grant) -> Reply
 
 // How many commands the sessions have.
 fn total(setup: &Setup) -> usize
-    requires { command_count setup.now ≤ 256 }
+    requires { command_count setup.now ≤ MOST_COMMANDS }
     ensures { result ≡ command_count setup.now }
 {
     let mut total = 0;
@@ -67,17 +72,16 @@ fn total(setup: &Setup) -> usize
 }
 
 impl<'s> Manager<'s> {
-    ghost use Rattle.bundle_model.specs.Grants.{IsApart, bundle_at};
-    ghost use Rattle.bundle_model.specs.Resources.{resources_of};
-    ghost use Rattle.bundle_model.specs.World.{same_label, IsSoundWorld};
-    ghost use Rattle.vep_manager.specs.Setup.{IsSound, last_cycle};
+    ghost use Rattle.bundle_model.specs.Grants.{IsApart};
+    ghost use Rattle.bundle_model.specs.World.{IsSoundWorld};
+    ghost use Rattle.vep_manager.specs.Setup.{IsSound};
     ghost use Rattle.vep_manager.specs.Granted.{AreGranted};
     ghost use Rattle.vep_manager.specs.History.{IsSession, is_used_up, count_of, commands_of, grants_of, horizon_of, horizon_with};
-    ghost use Rattle.vep_manager.specs.Replies.{next_entry, next_label, load_reply, judged_of, reply_to};
+    ghost use Rattle.vep_manager.specs.Replies.{label_reply, label_stop, next_entry, next_label, reply_to};
     ghost use Rattle.vep_manager.specs.Legal.{IsLegal};
 
     /// Makes a manager with no history, and takes all the memory that its other calls need.
-    #[tactic(auto, using(crate::proofs::SetupLemmas::sound_world, crate::proofs::Standing::legal_none, crate::proofs::Standing::grants_none))]
+    #[tactic(auto, using(crate::proofs::SetupLemmas::sound_world, crate::proofs::Standing::legal_none, crate::proofs::Settled::grants_none))]
     pub fn new(alloc: Global, setup: &'s Setup) -> Result<Manager<'s>, NoMemory>
         requires { IsSound setup.now }
         ensures made { IfOk result (λ m. m ≡ record { setup = setup.entry.now; history = [] }) }
@@ -102,7 +106,7 @@ impl<'s> Manager<'s> {
     fn done(&self, session: u8) -> usize
         ensures count { result ≡ count_of self.now.history session }
         ensures within { result ≤ length (commands_of self.now.setup session) }
-        ensures few { result ≤ 256 }
+        ensures few { result ≤ MOST_COMMANDS }
     {
         count(self.history.as_slice(), session)
     }
@@ -130,7 +134,7 @@ impl<'s> Manager<'s> {
     // The reply to a load of the bundle at a place of the catalog, which breaks no rule: that it comes too
     // late, that a resource is held, or that it is granted.
     fn granted_or_taken(&self, label: Label, place: u16, start: u64) -> Reply
-        ensures { result ≡ fits_reply self.now.setup self.now.history label start (option_map_or (resources_of self.now.setup.world.platform) (bundle_at self.now.setup.world place) []) }
+        ensures { result ≡ fits_reply self.now.setup self.now.history label start (claimed_at self.now.setup.world place) }
     {
         if start < self.horizon {
             return Reply::Past(self.horizon);
@@ -147,7 +151,7 @@ impl<'s> Manager<'s> {
 
     // The reply to the load of a label, if there is one.
     fn load_reply(&self, label: Label, start: u64) -> Option<Reply>
-        ensures { result ≡ option_map (load_reply self.now.setup self.now.history label start) (judged_of self.now.setup label) }
+        ensures { result ≡ label_reply self.now.setup self.now.history label start }
     {
         let Some(load) = named_load(self.setup.loads.as_slice(), label) else {
             return None;
@@ -163,7 +167,7 @@ impl<'s> Manager<'s> {
 
     // The reply to a stop of the load of a label.
     fn stop_reply(&self, label: Label, slot: u64) -> Reply
-        ensures { result ≡ stop_reply (horizon_of self.now.setup self.now.history) slot (find (λ grant. same_label grant.label label) (grants_of self.now.setup self.now.history)) }
+        ensures { result ≡ label_stop self.now.setup self.now.history label slot }
     {
         match named_grant(self.grants.as_slice(), label) {
             Some(grant) => stopped(self.horizon, slot, grant),
@@ -219,7 +223,7 @@ impl<'s> Manager<'s> {
         requires { next_entry self.old.setup self.old.history entry.session ≡ Some entry }
         ensures { self.new ≡ record self.old { history = self.old.history ++ entry ∷ [] } }
     {
-        follow(self.setup, &mut self.grants, &entry.reply);
+        follow(self.setup, &mut self.grants, entry.reply);
         self.history.push_reserved(entry);
         self.horizon = horizon(self.setup, self.history.as_slice(), None);
     }
@@ -233,7 +237,7 @@ impl<'s> Manager<'s> {
         ensures appended { self.new ≡ record self.old { history = self.old.history ++ option_to_list result } }
         ensures legal { IsLegal self.new.setup self.new.history }
         ensures apart { IsApart self.new.setup.world (grants_of self.new.setup self.new.history) }
-        ensures granted { AreGranted self.new.setup last_cycle self.new.history }
+        ensures granted { AreGranted self.new.setup LAST_CYCLE self.new.history }
     {
         let next = self.next(session);
         if let Some(entry) = next {

@@ -1,17 +1,18 @@
 //! Tests of the printer.
 
-ghost use Rattle.std.specs.Prelude.{◌≡◌, ◌≤◌, ℕ, List, ◌∷◌, ◌++◌, Option, codes};
-ghost use Rattle.soc_io.specs.Writing.{Printed, Writes};
+ghost use Rattle.std.specs.Prelude.{◌≡◌, ◌≤◌, ◌∷◌, ◌++◌, codes};
+ghost use Rattle.soc_io.specs.Printing.{WritesText, PrintsMore};
 ghost use Rattle.std.specs.List.{flat_map};
 
 use crate::mem_sink::MemSink;
 use crate::printer::Printer;
 use crate::sink::{Sink, SinkFault};
+use std::alloc::Global;
 use std::test::Fail;
 
 // A text in three pieces, as callers print.
 fn greet<S: Sink>(sink: &mut S, name: &[u8]) -> Result<(), SinkFault>
-    ensures answer { Writes (codes "hello, " ++ name.now ++ codes "!") (S.written sink.old) (S.faults sink.old) (S.written sink.new) (S.faults sink.new) result }
+    ensures answer { WritesText S.written S.faults sink.old sink.new (codes "hello, " ++ name.now ++ codes "!") result }
     ensures counted { S.faults sink.old ≤ S.faults sink.new }
 {
     let mut printer = Printer::new(sink);
@@ -23,7 +24,7 @@ fn greet<S: Sink>(sink: &mut S, name: &[u8]) -> Result<(), SinkFault>
 
 // Marks, each in two pieces, as callers print rows in a loop.
 fn put_marks<S: Sink>(printer: &mut Printer<'_, S>, marks: &[u8])
-    ensures printed { (text : List ℕ) (old : Option (List ℕ)) (before : ℕ) → Printed text old before (S.written printer.old.sink.now) (S.faults printer.old.sink.now) printer.old.failed → Printed (text ++ flat_map (λ mark. mark ∷ codes ";") marks.now) old before (S.written printer.new.sink.now) (S.faults printer.new.sink.now) printer.new.failed }
+    ensures printed { PrintsMore S.written S.faults printer.old printer.new (flat_map (λ mark. mark ∷ codes ";") marks.now) }
     ensures same { printer.new.sink.ghost_name ≡ printer.old.sink.ghost_name }
 {
     for mark in marks {
@@ -34,13 +35,31 @@ fn put_marks<S: Sink>(printer: &mut Printer<'_, S>, marks: &[u8])
 
 // A head, and marks.
 fn list<S: Sink>(sink: &mut S, marks: &[u8]) -> Result<(), SinkFault>
-    ensures answer { Writes (codes "marks " ++ flat_map (λ mark. mark ∷ codes ";") marks.now) (S.written sink.old) (S.faults sink.old) (S.written sink.new) (S.faults sink.new) result }
+    ensures answer { WritesText S.written S.faults sink.old sink.new (codes "marks " ++ flat_map (λ mark. mark ∷ codes ";") marks.now) result }
     ensures counted { S.faults sink.old ≤ S.faults sink.new }
 {
     let mut printer = Printer::new(sink);
     printer.put(b"marks ");
     put_marks(&mut printer, marks);
     printer.finish()
+}
+
+// Prints a line around a name to a sink whose second write fails, and answers whether all of it was
+// written, and how many bytes were.
+fn put_line(alloc: Global, name: usize) -> Result<(bool, usize), Fail> {
+    let name = String::from_utf8(Vec::from_elem(alloc, b'n', name)?)?;
+    let mut sink = MemSink::new(alloc, 999, vec![in alloc; 2]?)?;
+    let mut printer = Printer::new(&mut sink);
+    printer.put_named("file ", name.as_str(), " is there\n");
+    let is_whole = printer.finish().is_ok();
+    Ok((is_whole, sink.written().len()))
+}
+
+#[test]
+fn prints_a_line_of_512_bytes_in_one_write(rt: HostRuntime) -> Result<(), Fail> {
+    assert_eq!(rt; put_line(rt.alloc(), 497)?, (true, 512));
+    assert_eq!(rt; put_line(rt.alloc(), 498)?, (false, 5));
+    Ok(())
 }
 
 #[test]

@@ -4,7 +4,7 @@ use Rattle.std.proofs.lemmas.List.Elements.{All-more}
 use Rattle.tile_core.specs.Fit.{IsUnderway}
 use Rattle.tile_core.specs.declared.station.Station.{Station}
 use Rattle.tile_core.specs.Tile.{TileState}
-use Rattle.serial_run.specs.Stations.{station_slot}
+use Rattle.serial_run.specs.inner.Stations.{station_slot}
 use Rattle.serial_run.proofs.Underway.{read_before}
 use Rattle.serial_run.proofs.rig.step_all.Goals as goal
 

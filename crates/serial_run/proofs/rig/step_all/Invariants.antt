@@ -1,7 +1,7 @@
 use Rattle.std.proofs.Common.{◌≡◌, ◌++◌, map, take, drop, All}
 use Rattle.tile_core.specs.Fit.{IsUnderway}
 use Rattle.tile_core.specs.Slot.{tile_slot}
-use Rattle.serial_run.specs.Stations.{station_slot}
+use Rattle.serial_run.specs.inner.Stations.{station_slot}
 use Rattle.serial_run.proofs.rig.step_all.Given as goal
 
 abbrev pub invariant-loop-station : goal.invariant-loop-station

@@ -1,6 +1,6 @@
 use Rattle.std.proofs.Common.{◌≡◌, ◌∙◌, ap, arith}
-use Rattle.vep_manager.specs.Kept.{Kept}
-use Rattle.vep_manager.proofs.SetupLemmas.{sound_world}
+use Rattle.vep_manager.specs.Manager.{ManagerState}
+use Rattle.vep_manager.proofs.Laws.{sound_world}
 use Rattle.serial_run.proofs.Ending.{can_finish}
 use Rattle.serial_run.proofs.serial.serial_all.Goals as goal
 
@@ -12,5 +12,12 @@ new-requires-3 c = rw c.as_slice.ensures (sound_world c.args.setup.now c.require
 
 pub finish-stations-requires : goal.finish-stations-requires
 finish-stations-requires c =
-    let same : c.commit_all.new.manager.setup ≡ c.args.setup.now = c.commit_all.ensures.setup ∙ ap (λ (kept : Kept). kept.setup) c.in_ok-manager.ensures.made in
-    can_finish c.args.setup.now c.commit_all.new.manager c.copy_since.new.into c.in_ok-rig.rig c.requires same (rw (← c.as_slice.ensures) c.in_ok-rig.ensures) c.commit_all.ensures.rounds c.commit_all.ensures.apart c.copy_since.ensures.grants c.copy_since.ensures.horizon
+    let same : c.commit_all.new.manager.setup ≡ c.args.setup.now =
+        c.commit_all.ensures.setup ∙ ap (λ (state : ManagerState). state.setup) c.in_ok-manager.ensures.made in
+    can_finish c.args.setup.now c.commit_all.new.manager c.copy_since.new.into c.in_ok-rig.rig c.requires (record {
+      same = same;
+      rounds = c.commit_all.ensures.rounds;
+      apart = c.commit_all.ensures.apart;
+      grants = c.copy_since.ensures.grants;
+      horizon = c.copy_since.ensures.horizon;
+    }) (rw (← c.as_slice.ensures) c.in_ok-rig.ensures)

@@ -1,5 +1,5 @@
 use Rattle.std.proofs.Common.{◌≡◌, [], fold, take}
-use Rattle.soc_top.specs.Naming.{with_command}
+use Rattle.soc_top.specs.inner.Naming.{with_command}
 use Rattle.soc_top.proofs.catalog.bundle_names.Given as goal
 
 abbrev pub invariant-loop-command : goal.invariant-loop-command

@@ -1,12 +1,13 @@
-use Rattle.std.proofs.Common.{◌≡◌, ◌≤◌, take, All, IfOk}
-use Rattle.bundle_model.specs.WellFormed.{IsWellFormed}
-use Rattle.soc_top.specs.Naming.{catalog_names, IsJudged}
+use Rattle.std.proofs.Common.{◌≡◌, ◌≤◌}
+use Rattle.soc_top.specs.inner.Naming.{catalog_names, IsJudged, AreWellFormed}
 use Rattle.soc_top.proofs.catalog.read_catalog.Given as goal
 
 abbrev pub invariant-loop-name : goal.invariant-loop-name
 invariant-loop-name g l =
-    (g.F.Files.holds l.files ≡ g.F.Files.holds l.fn.files)
+    (goal.iterator-loop-name).can_next l.name-iterator
+    × (goal.iterator-loop-name).is_finite l.name-iterator
+    × (g.F.Files.holds l.files ≡ g.F.Files.holds l.fn.files)
     × (g.F.Files.faults l.fn.files ≤ g.F.Files.faults l.files)
-    × (catalog_names l.catalog.items ≡ take l.name-index l.names)
+    × (catalog_names l.catalog.items ≡ l.yielded)
     × IsJudged (g.F.Files.holds l.fn.files) l.platform l.catalog.items
-    × All (λ named. IfOk named.judged (IsWellFormed l.platform)) l.catalog.items
+    × AreWellFormed l.platform l.catalog.items

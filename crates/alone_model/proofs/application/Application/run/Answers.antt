@@ -1,7 +1,7 @@
-use Rattle.std.proofs.Common.{sym, arith}
-use Rattle.alone_model.proofs.Ended.{ended_stays}
+use Rattle.std.proofs.Common.{◌-◌, sym, ◌∙◌}
+use Rattle.alone_model.proofs.Stretches.{parts_steps}
 use Rattle.alone_model.proofs.application.Application.run.Goals as goal
 
-pub returns-then-has_ended : goal.returns-then-has_ended
-returns-then-has_ended c =
-    ended_stays c.args.platform.now c.args.from c.loop-cycle.cycle c.args.to c.args.self.now c.loop-cycle.self (omega arith) (omega arith) c.loop-cycle.invariant (sym c.if-has_ended.ensures)
+pub returns : goal.returns
+returns c =
+    c.run_parts.ensures ∙ sym (parts_steps c.args.platform.now c.args.from c.args.from (c.args.to - c.args.from) c.args.self.now)

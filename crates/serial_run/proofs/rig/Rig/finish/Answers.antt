@@ -1,6 +1,6 @@
 use Rattle.std.proofs.Common.{◌≡◌, ◌+◌, sym, refl, ap, subst, ◌∙◌, arith}
 use Rattle.std.specs.List.{All}
-use Rattle.soc_base.proofs.StepLemmas.{steps_none}
+use Rattle.soc_base.proofs.Laws.{steps_none}
 use Rattle.tile_core.specs.Fit.{IsUnderway}
 use Rattle.tile_core.specs.Lockstep.{Machine}
 use Rattle.serial_run.proofs.Fresh.{all_fresh}

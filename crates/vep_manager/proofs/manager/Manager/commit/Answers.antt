@@ -4,12 +4,14 @@ use Rattle.bundle_model.specs.Grants.{IsApart}
 use Rattle.vep_manager.specs.declared.reply.Entry.{Entry}
 use Rattle.vep_manager.specs.History.{is_used_up, grants_of}
 use Rattle.vep_manager.specs.Replies.{next_entry}
-use Rattle.vep_manager.specs.Setup.{last_cycle}
+use Rattle.soc_base.specs.declared.limits.TheConstants.{LAST_CYCLE}
 use Rattle.vep_manager.specs.Legal.{IsLegal}
 use Rattle.vep_manager.specs.Granted.{AreGranted}
-use Rattle.vep_manager.specs.Kept.{Kept}
-use Rattle.vep_manager.proofs.Replied.{next_none}
-use Rattle.vep_manager.proofs.Standing.{standing, granted, legal_more}
+use Rattle.vep_manager.specs.Manager.{ManagerState}
+use Rattle.vep_manager.proofs.States.{held}
+use Rattle.vep_manager.proofs.Nexts.{next_none}
+use Rattle.vep_manager.proofs.Standing.{standing, legal_more}
+use Rattle.vep_manager.proofs.Settled.{granted}
 use Rattle.vep_manager.proofs.manager.Manager.commit.Goals as goal
 
 pub keep-requires : goal.keep-requires
@@ -19,11 +21,15 @@ keep-requires c =
 
 pub returns-in-Some-clause-used_up : goal.returns-in-Some-clause-used_up
 returns-in-Some-clause-used_up c =
-    subst (λ (o : Option Entry). IsNone o ↔ IsTrue (is_used_up c.args.self.now.setup c.args.self.now.history c.args.session)) (sym c.next-next.ensures.entry ∙ c.in-Some.is) (next_none c.args.self.now.setup c.args.self.now.history c.args.session)
+    subst (λ (o : Option Entry). IsNone o ↔ IsTrue
+        (is_used_up c.args.self.now.setup c.args.self.now.history c.args.session)) (sym c.next-next.ensures.entry
+        ∙ c.in-Some.is) (next_none c.args.self.now c.args.session)
 
 pub returns-in_default-clause-used_up : goal.returns-in_default-clause-used_up
 returns-in_default-clause-used_up c =
-    subst (λ (o : Option Entry). IsNone o ↔ IsTrue (is_used_up c.args.self.now.setup c.args.self.now.history c.args.session)) (sym c.next-next.ensures.entry) (next_none c.args.self.now.setup c.args.self.now.history c.args.session)
+    subst (λ (o : Option Entry). IsNone o ↔ IsTrue
+        (is_used_up c.args.self.now.setup c.args.self.now.history c.args.session)) (sym c.next-next.ensures.entry)
+        (next_none c.args.self.now c.args.session)
 
 pub returns-in-Some-clause-legal : goal.returns-in-Some-clause-legal
 returns-in-Some-clause-legal c =
@@ -31,7 +37,8 @@ returns-in-Some-clause-legal c =
     let history = c.args.self.now.history in
     let same : c.in-Some.entry.session ≡ c.args.session = search rules in
     let next = ap (next_entry setup history) same ∙ sym c.next-next.ensures.entry ∙ c.in-Some.is in
-    subst (λ (k : Kept). IsLegal k.setup k.history) (sym c.keep.ensures) (legal_more setup history c.in-Some.entry c.next-next.ensures.legal next)
+    subst (λ (k : ManagerState). IsLegal k.setup k.history) (sym c.keep.ensures)
+        (legal_more setup history c.in-Some.entry c.next-next.ensures.legal next)
 
 pub returns-in-Some-clause-apart : goal.returns-in-Some-clause-apart
 returns-in-Some-clause-apart c =
@@ -40,8 +47,10 @@ returns-in-Some-clause-apart c =
     let same : c.in-Some.entry.session ≡ c.args.session = search rules in
     let next = ap (next_entry setup history) same ∙ sym c.next-next.ensures.entry ∙ c.in-Some.is in
     let after = history ++ c.in-Some.entry ∷ [] in
-    let stands = standing setup last_cycle c.next-next.ensures.sound.cycles after (legal_more setup history c.in-Some.entry c.next-next.ensures.legal next) in
-    subst (λ (k : Kept). IsApart k.setup.world (grants_of k.setup k.history)) (sym c.keep.ensures) stands.apart
+    let stands = standing (held setup after) LAST_CYCLE c.next-next.ensures.sound.cycles
+        (legal_more setup history c.in-Some.entry c.next-next.ensures.legal next) in
+    subst (λ (k : ManagerState). IsApart k.setup.world (grants_of k.setup k.history)) (sym c.keep.ensures)
+        stands.apart
 
 pub returns-in-Some-clause-granted : goal.returns-in-Some-clause-granted
 returns-in-Some-clause-granted c =
@@ -50,16 +59,19 @@ returns-in-Some-clause-granted c =
     let same : c.in-Some.entry.session ≡ c.args.session = search rules in
     let next = ap (next_entry setup history) same ∙ sym c.next-next.ensures.entry ∙ c.in-Some.is in
     let after = history ++ c.in-Some.entry ∷ [] in
-    let stands = standing setup last_cycle c.next-next.ensures.sound.cycles after (legal_more setup history c.in-Some.entry c.next-next.ensures.legal next) in
-    subst (λ (k : Kept). AreGranted k.setup last_cycle k.history) (sym c.keep.ensures) (granted setup last_cycle after stands)
+    let stands = standing (held setup after) LAST_CYCLE c.next-next.ensures.sound.cycles
+        (legal_more setup history c.in-Some.entry c.next-next.ensures.legal next) in
+    subst (λ (k : ManagerState). AreGranted k.setup LAST_CYCLE k.history) (sym c.keep.ensures)
+        (granted (held setup after) LAST_CYCLE stands)
 
 pub returns-in_default-clause-legal : goal.returns-in_default-clause-legal
 returns-in_default-clause-legal c = c.next-next.ensures.legal
 
 pub returns-in_default-clause-apart : goal.returns-in_default-clause-apart
 returns-in_default-clause-apart c =
-    (standing c.args.self.now.setup last_cycle c.next-next.ensures.sound.cycles c.args.self.now.history c.next-next.ensures.legal).apart
+    (standing c.args.self.now LAST_CYCLE c.next-next.ensures.sound.cycles c.next-next.ensures.legal).apart
 
 pub returns-in_default-clause-granted : goal.returns-in_default-clause-granted
 returns-in_default-clause-granted c =
-    granted c.args.self.now.setup last_cycle c.args.self.now.history (standing c.args.self.now.setup last_cycle c.next-next.ensures.sound.cycles c.args.self.now.history c.next-next.ensures.legal)
+    granted c.args.self.now LAST_CYCLE
+        (standing c.args.self.now LAST_CYCLE c.next-next.ensures.sound.cycles c.next-next.ensures.legal)

@@ -3,14 +3,14 @@ use Rattle.std.proofs.lemmas.List.Sums.{count_by-le-length}
 use Rattle.std.specs.Prelude.{◌==◌}
 use Rattle.vep_manager.specs.declared.reply.Entry.{Entry}
 use Rattle.vep_manager.specs.History.{commands_of, count_of}
-use Rattle.vep_manager.specs.Kept.{Kept}
+use Rattle.vep_manager.specs.Manager.{ManagerState}
 use Rattle.vep_manager.proofs.Keeping.{kept_count, kept_entries}
 use Rattle.vep_manager.proofs.manager.Manager.done.Goals as goal
 
 pub returns-clause-within : goal.returns-clause-within
 returns-clause-within c =
     let low = kept_count c.args.session c.self.invariant.0 in
-    let P = λ (k : Kept). count_of k.history c.args.session ≤ length (commands_of k.setup c.args.session) in
+    let P = λ (k : ManagerState). count_of k.history c.args.session ≤ length (commands_of k.setup c.args.session) in
     rw (c.count.ensures, c.as_slice.ensures.value) (rw (← c.self.view_is) low)
 
 pub returns-clause-few : goal.returns-clause-few

@@ -1,0 +1,131 @@
+-- What follows for the grants and the horizon of a legal history.
+use Rattle.std.proofs.Common.{◌≡◌, ◌≢◌, ℕ, zero, suc, ◌+◌, ◌-◌, ◌<◌, ◌≤◌, ◌⊎◌, inl, inr, true, cond, List, [], ◌∷◌, ◌++◌, length, map, take, get_or, fold, max, min, Option, Some, None, refl, sym, ap, ap₂, subst, ◌∙◌, arith, append_assoc, length-append, eq-eqb}
+use Rattle.std.specs.Prelude.{nat_le, IsTrue, IsSome, IsSomeAnd, IfSome}
+use Rattle.std.specs.List.{All, AllPairs, Contains, slice_get, sum_by, filter_map}
+use Rattle.std.specs.Option.{option_or, option_map_or, option_to_list}
+use Rattle.std.proofs.lemmas.Bool.{le-leb, ne_eqb, cases_lt, cases_eq}
+use Rattle.std.proofs.lemmas.List.{append-nil, length-map, get_or_default}
+use Rattle.std.proofs.lemmas.List.Quantifiers.{all_pairs_push}
+use Rattle.std.proofs.lemmas.List.Sums.{sum_by-cons}
+use Rattle.std.proofs.lemmas.List.Elements.{All-nil, All-head, All-tail, All-push, All-map, All-contains, All-append, Contains-get_or}
+use Rattle.std.proofs.lemmas.Option.{slice_get_within}
+use Rattle.soc_base.specs.declared.limits.TheConstants.{LAST_CYCLE}
+use Rattle.soc_base.specs.declared.label.Label.{Label}
+use Rattle.bundle_model.specs.declared.world.LoadName.{LoadName}
+use Rattle.bundle_model.specs.declared.world.Grant.{Grant}
+use Rattle.bundle_model.specs.Grants.{bundle_at, do_meet, EndsBefore, IsApart}
+use Rattle.bundle_model.specs.World.{AreOfLoads}
+use Rattle.script_file.specs.declared.command.Command.{Command}
+use Rattle.script_file.specs.declared.command.Script.{Script}
+use Rattle.vep_manager.specs.declared.setup.Setup.{Setup}
+use Rattle.vep_manager.specs.declared.reply.Reply.{Reply}
+use Rattle.vep_manager.specs.declared.reply.Reply.TheVariants.{Granted}
+use Rattle.vep_manager.specs.declared.reply.Entry.{Entry}
+use Rattle.vep_manager.specs.Loads.{loaded_names}
+use Rattle.vep_manager.specs.History.{until_slot, promise_of, sessions_of, horizon_of, commands_of, count_of, end_by, end_in, grants_of}
+use Rattle.vep_manager.specs.Replies.{next_label, next_entry}
+use Rattle.vep_manager.specs.Setup.{IsSound, StatesWithin, command_count}
+use Rattle.vep_manager.specs.Legal.{IsLegal, IsComplete}
+use Rattle.vep_manager.specs.Granted.{IsEarly, EndsEarly, AreGranted}
+use Rattle.vep_manager.specs.Manager.{ManagerState}
+use Rattle.vep_manager.specs.inner.Keeping.{ended_by, grants_after, opened_by}
+use Rattle.vep_manager.proofs.States.{held, grown, grants_at, horizon_at, commands_at, done_at, label_at, reply_at, next_at, IsNextEntry, loads_before, OneMoreLoad}
+use Rattle.vep_manager.proofs.Lists.{pairs_map, pairs_none, split_last, fewer}
+use Rattle.vep_manager.proofs.SetupLemmas.{script_of, numbered_next}
+use Rattle.vep_manager.proofs.Growth.{count_of-append, end_in-append, grants_of-append, loads_grow}
+use Rattle.vep_manager.proofs.Replied.{next_command, Opens, Closes, Tells, reply_tells}
+use Rattle.vep_manager.proofs.Standing.{Standing, counts, standing}
+
+-- the grants are no more than the loads
+pub few_grants : (state : ManagerState) (limit : ℕ) → Standing state limit
+    → length (grants_at state) ≤ length state.setup.loads
+few_grants state limit stands =
+    let name = λ (g : Grant). let load : LoadName = record { label = g.label; bundle = g.bundle } in load in
+    let apart = pairs_map (λ (one other : Grant). one.label ≢ other.label) (λ (one other : LoadName). one ≢ other)
+        name (λ one other labels same. labels (ap (λ (l : LoadName). l.label) same)) (grants_at state)
+        stands.apart.labelled in
+    let few = fewer (map name (grants_at state)) state.setup.loads apart
+        (All-map (Contains state.setup.loads) name (grants_at state) stands.of_loads) in
+    omega (arith, few, length-map (grants_at state) name)
+
+counts_fit : (history : List Entry) (scripts : List Script) (from : ℕ)
+    → ((place : ℕ) (script : Script) → slice_get scripts place ≡ Some script
+        → count_of history (from + place) ≤ length script.commands)
+    → counts history from (length scripts) ≤ sum_by (λ script. length script.commands) scripts
+counts_fit history [] from fit = omega arith
+counts_fit history (script ∷ scripts) from fit =
+    let here : count_of history (from + 0) ≤ length script.commands = fit 0 script refl in
+    let same : from + 0 ≡ from = omega arith in
+    let rest = counts_fit history scripts (from + 1) (λ place other at.
+    let shift : from + suc place ≡ from + 1 + place = omega arith in
+    subst (λ (s : ℕ). count_of history s ≤ length other.commands) shift (fit (suc place) other at)) in
+    omega (arith, here, ap (count_of history) same, rest, sum_by-cons (λ (s : Script). length s.commands) script
+        scripts)
+
+-- the entries are no more than the commands
+pub few_entries : (state : ManagerState) (limit : ℕ) → Standing state limit
+    → length state.history ≤ command_count state.setup
+few_entries state limit stands =
+    let fit = counts_fit state.history state.setup.scripts 1 (λ place script at.
+    let shift : 1 + place ≡ place + 1 = omega arith in
+    let commands : commands_of state.setup (1 + place) ≡ script.commands =
+    ap (commands_of state.setup) shift
+        ∙ ap (λ (o : Option Script). option_map_or (λ (s : Script). s.commands) o [])
+        (numbered_next state.setup.scripts place ∙ at) in
+    omega (arith, stands.within (1 + place), ap length commands)) in
+    omega (arith, fit, stands.total)
+
+-- what holds of the grants
+pub granted : (state : ManagerState) (limit : ℕ) → Standing state limit → AreGranted state.setup limit state.history
+granted state limit stands = record {
+  of_loads = stands.of_loads;
+  few = few_grants state limit stands;
+  begin_early = stands.begin_early;
+  end_early = stands.end_early;
+}
+
+-- the grants of a legal history of a sound setup can all be kept
+pub legal_apart : (setup : Setup) → IsSound setup → (history : List Entry) → IsLegal setup history
+    → IsApart setup.world (grants_of setup history)
+legal_apart setup sound history legal = (standing (held setup history) LAST_CYCLE sound.cycles legal).apart
+
+pub legal_granted : (state : ManagerState) (limit : ℕ) → StatesWithin state.setup limit
+    → IsLegal state.setup state.history → AreGranted state.setup limit state.history
+legal_granted state limit within legal = granted state limit (standing state limit within legal)
+
+-- each grant of a legal history of a sound setup is of one of the loads
+pub grants_of_loads : (setup : Setup) → IsSound setup → (history : List Entry) → IsLegal setup history
+    → AreOfLoads setup.loads (grants_of setup history)
+grants_of_loads setup sound history legal = (standing (held setup history) LAST_CYCLE sound.cycles legal).of_loads
+
+pub grants_none : (setup : Setup) → grants_of setup [] ≡ []
+unfolding grants_of
+grants_none setup = refl
+
+least_same : (setup : Setup) (done : ℕ → ℕ) (sessions : List ℕ)
+    → All (λ session. promise_of setup session (done session) ≡ setup.budget) sessions
+    → fold (λ least promise. min least promise) setup.budget
+        (map (λ session. promise_of setup session (done session)) sessions) ≡ setup.budget
+least_same setup done [] same = refl
+least_same setup done (session ∷ sessions) same =
+    let here = All-head (λ session. promise_of setup session (done session) ≡ setup.budget) session sessions same in
+    let least : min setup.budget (promise_of setup session (done session)) ≡ setup.budget = omega (arith, here) in
+    ap (λ n. fold (λ least promise. min least promise) n
+        (map (λ session. promise_of setup session (done session)) sessions)) least
+    ∙ least_same setup done sessions
+        (All-tail (λ session. promise_of setup session (done session) ≡ setup.budget) session sessions same)
+
+-- the horizon of a complete history is the budget
+pub horizon_complete : (setup : Setup) (history : List Entry) → IsComplete setup history
+    → horizon_of setup history ≡ setup.budget
+unfolding horizon_of
+horizon_complete setup history complete =
+    let most = λ (session n : ℕ). fold (λ most slot. max most slot) 0
+        (filter_map (until_slot setup) (take n (commands_of setup session))) in
+    let all : All (λ session. promise_of setup session (count_of history session) ≡ setup.budget)
+        (sessions_of setup) = λ k d below.
+    let session : ℕ = get_or (sessions_of setup) k d in
+    let used : nat_le (length (commands_of setup session)) (count_of history session) ≡ true =
+        le-leb (length (commands_of setup session)) (count_of history session) (omega (arith, complete k d below)) in
+    ap (λ b. cond b setup.budget (min setup.budget (most session (count_of history session)))) used in
+    least_same setup (count_of history) (sessions_of setup) all
