@@ -37,7 +37,12 @@ own_region part = record { base = 0; len = part.region.len }
 abbrev pub opening_part : Part → AppPart
 opening_part part = record {
   part = part;
-  state = record { regs = fresh_registers part.entry; left = 0; bytes = filled_bytes part.region.len part.image; log = new_log part.trace };
+  state = record {
+    regs = fresh_registers part.entry;
+    left = 0;
+    bytes = filled_bytes part.region.len part.image;
+    log = new_log part.trace;
+  };
 }
 
 -- an application when it is granted

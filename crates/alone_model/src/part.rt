@@ -35,7 +35,10 @@ impl<'b> Model for RunningPart<'b> {
 
     ghost Value = { AppPart };
 
-    ghost view = { λ p. record { part = p.part.now; state = record { regs = p.regs; left = p.left; bytes = region_bytes p.memory (own_region p.part.now); log = p.log } } };
+    ghost view = { λ p. record {
+      part = p.part.now;
+      state = record { regs = p.regs; left = p.left; bytes = region_bytes p.memory (own_region p.part.now); log = p.log };
+    } };
 
     ghost invariant = { λ p. IsInside p.memory (own_region p.part.now) };
 }
@@ -69,7 +72,8 @@ fn filled_memory(alloc: Global, part: &Part) -> Result<TileMemory, NoMemory>
     requires most { part.now.region.len ≤ MOST_MEMORY }
     requires holds { 4 * length part.now.image ≤ part.now.region.len }
     ensures inside { IfOk result (λ memory. IsInside memory (own_region part.now)) }
-    ensures bytes { IfOk result (λ memory. region_bytes memory (own_region part.now) ≡ filled_bytes part.now.region.len part.now.image) }
+    ensures bytes { let filled = filled_bytes part.now.region.len part.now.image in
+        IfOk result (λ memory. region_bytes memory (own_region part.now) ≡ filled) }
 {
     let mut memory = TileMemory::new(alloc, part.region.len)?;
     memory.fill(region_of(part), part.image.as_slice());
@@ -78,9 +82,8 @@ fn filled_memory(alloc: Global, part: &Part) -> Result<TileMemory, NoMemory>
 
 impl<'b> RunningPart<'b> {
     ghost use Rattle.bundle_model.specs.WellFormed.{IsWellFormedPart};
-    ghost use Rattle.soc_base.specs.Steps.{after_steps};
-    ghost use Rattle.alone_model.specs.App.{opening_part, part_step};
-    ghost use Rattle.alone_model.specs.inner.Stretch.{part_ran};
+    ghost use Rattle.alone_model.specs.App.{opening_part};
+    ghost use Rattle.alone_model.specs.inner.Stretch.{part_ran, part_steps};
 
     /// Makes a part as it is when its application is granted.
     pub fn new(
@@ -129,7 +132,7 @@ impl<'b> RunningPart<'b> {
         requires bounded { to ≤ LAST_CYCLE }
         ensures later { from < result }
         ensures within { result ≤ to }
-        ensures cycles { self.new ≡ after_steps (part_step platform.now start) from (result - from) self.old }
+        ensures cycles { self.new ≡ part_steps platform.now start from (result - from) self.old }
     {
         let (begin, past) = partition_cycles(platform, from);
         let first = from.max(begin);
@@ -145,7 +148,7 @@ impl<'b> RunningPart<'b> {
     pub fn run(&mut self, platform: &Platform, start: u64, from: u64, to: u64)
         requires ordered { from ≤ to }
         requires bounded { to ≤ LAST_CYCLE }
-        ensures { self.new ≡ after_steps (part_step platform.now start) from (to - from) self.old }
+        ensures { self.new ≡ part_steps platform.now start from (to - from) self.old }
     {
         let mut at = from;
         while at < to {

@@ -1,4 +1,5 @@
--- What a part's bus answers: memory below the device registers, and from there on TRACE, CYCLE and CYCLEH. The ports of the network interface are further registers, which no part has yet.
+-- What a part's bus answers: memory below the device registers, and from there on TRACE, CYCLE and
+-- CYCLEH. The ports of the network interface are further registers, which no part has yet.
 use Rattle.std.specs.Prelude.{ℕ, ◌+◌, ◌/◌, ◌%◌, ◌^◌, ◌==◌, List, length, nat_lt, if◌then◌else◌, Option, Some, None, Result, Ok, Err}
 use Rattle.soc_base.specs.declared.region.Width.{Width}
 use Rattle.soc_base.specs.declared.region.Width.TheVariants.{Byte, Half, Word}
@@ -29,7 +30,9 @@ pub record BusState : Type 0 where
 -- a row of the log, where the part names its kind
 abbrev pub traced : Place → ℕ → Kind → ℕ → Log → Log
 traced place cycle kind value log =
-    if has_kind place.kinds kind then logged (record { cycle = cycle; value = value; tile = place.tile; kind = kind }) log else log
+    if has_kind place.kinds kind
+    then logged (record { cycle = cycle; value = value; tile = place.tile; kind = kind }) log
+    else log
 
 -- the word at pc, where its four bytes are in the region
 abbrev pub fetch_answer : BusState → ℕ → Option ℕ
@@ -78,7 +81,8 @@ register_store b addr Word value =
 
 -- a store to the device registers
 abbrev pub device_store : BusState → ℕ → Width → ℕ → Answer × BusState
-device_store b addr width value = if addr % width_bytes width == 0 then register_store b addr width value else (Fault Align, b)
+device_store b addr width value =
+    if addr % width_bytes width == 0 then register_store b addr width value else (Fault Align, b)
 
 -- what a store answers, and the bus after it
 unfoldable pub store_answer : BusState → ℕ → Width → ℕ → Answer × BusState

@@ -40,11 +40,17 @@ log_after place cycle pc (Some (Fault cause)) log = finished (Faulted cause cycl
 
 -- the part after a running cycle that ended so
 abbrev pub settled : Place → ℕ → ℕ → CycleEnd BusState → PartState
-settled place cycle pc end = record { regs = end.regs; left = end.left; bytes = end.bus.bytes; log = log_after place cycle pc end.outcome end.bus.log }
+settled place cycle pc end = record {
+  regs = end.regs;
+  left = end.left;
+  bytes = end.bus.bytes;
+  log = log_after place cycle pc end.outcome end.bus.log;
+}
 
 -- the part after a cycle in which it runs, where it hasn't ended
 abbrev pub live_cycle : Costs → Place → ℕ → PartState → PartState
-live_cycle costs place cycle p = settled place cycle p.regs.pc (running_cycle part_bus costs p.regs p.left (bus_of place cycle p))
+live_cycle costs place cycle p =
+    settled place cycle p.regs.pc (running_cycle part_bus costs p.regs p.left (bus_of place cycle p))
 
 -- a part that has ended stays as it is
 abbrev pub unless_ended : PartEnd → PartState → PartState → PartState

@@ -66,7 +66,8 @@ charged left regs bus = record { outcome = None; regs = regs; left = left; bus =
 
 -- the cycle in which the instruction at pc needs `due` cycles, this one counted
 abbrev pub cycle_with : {S : Type 0} → BusMeaning S → ℕ → Registers → S → Option ℕ → CycleEnd S
-cycle_with meaning due regs bus word = if nat_lt 1 due then charged (due - 1) regs bus else effect_at meaning regs bus word
+cycle_with meaning due regs bus word =
+    if nat_lt 1 due then charged (due - 1) regs bus else effect_at meaning regs bus word
 
 -- one running cycle
 unfoldable pub running_cycle : {S : Type 0} → BusMeaning S → Costs → Registers → ℕ → S → CycleEnd S

@@ -101,7 +101,8 @@ imm_op_at funct3 =
 abbrev pub shift_op_at : ℕ → ℕ → Option ImmOp
 shift_op_at funct3 funct7 =
     if funct3 == 0b001 then (if funct7 == 0b0000000 then Some Slli else None)
-    else if funct3 == 0b101 then (if funct7 == 0b0000000 then Some Srli else if funct7 == 0b0100000 then Some Srai else None)
+    else if funct3 == 0b101 then
+    (if funct7 == 0b0000000 then Some Srli else if funct7 == 0b0100000 then Some Srai else None)
     else None
 
 -- an operation whose constant is a shift

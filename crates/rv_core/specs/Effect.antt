@@ -32,7 +32,8 @@ even_address_of r rs1 imm = address_of r rs1 imm / 2 * 2
 -- the access of an instruction, by the registers before it
 unfoldable pub request_of : Registers → Instr → Request
 request_of r (Load op rd rs1 imm) = LoadFrom (address_of r rs1 imm) (load_width op)
-request_of r (Store op rs1 rs2 imm) = StoreTo (address_of r rs1 imm) (store_width op) (stored_value op (register_at r rs2))
+request_of r (Store op rs1 rs2 imm) =
+    StoreTo (address_of r rs1 imm) (store_width op) (stored_value op (register_at r rs2))
 request_of r (Lui rd imm) = Nothing
 request_of r (Auipc rd imm) = Nothing
 request_of r (Jal rd imm) = Nothing
@@ -69,7 +70,8 @@ set r rd value = next (with_register r rd value)
 
 -- to a target, which is to be a multiple of 4
 abbrev pub jump : Registers → ℕ → Effect
-jump r target = if target % 4 == 0 then record { outcome = Next; regs = record r { pc = target } } else ends r (Fault Target)
+jump r target =
+    if target % 4 == 0 then record { outcome = Next; regs = record r { pc = target } } else ends r (Fault Target)
 
 -- the same, and rd takes the address of the next instruction
 abbrev pub link : Registers → ℕ → ℕ → Effect

@@ -64,7 +64,8 @@ j_type opcode rd imm =
 
 -- FENCE: the opcode, and all else from `rest`
 abbrev pub fence_type : ℕ → ℕ → ℕ → Fields
-fence_type opcode funct3 rest = r_type opcode funct3 (bits rest 31 25) (bits rest 11 7) (bits rest 19 15) (bits rest 24 20)
+fence_type opcode funct3 rest =
+    r_type opcode funct3 (bits rest 31 25) (bits rest 11 7) (bits rest 19 15) (bits rest 24 20)
 
 -- ---- the immediates of fields
 

@@ -19,3 +19,5 @@ pub mod Slots
 pub mod Fresh
 pub mod Found
 pub mod Laws
+pub mod Stretches
+pub mod Ready

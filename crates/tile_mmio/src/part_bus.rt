@@ -39,7 +39,7 @@ impl<'a> PartBus<'a> {
         ensures loans { bus_loans result ≡ (memory.entry.ghost_name, log.entry.ghost_name) }
         ensures memory { bus_memory result ≡ memory.old }
         ensures region { bus_region result ≡ region }
-        ensures state { bus_state result ≡ bus_on memory.old region log.old (record { tile = tile; kinds = kinds }) cycle }
+        ensures state { bus_state result ≡ bus_on memory.old region log.old tile kinds cycle }
     {
         PartBus {
             memory,

@@ -121,7 +121,7 @@ impl<'a> PartOnTile<'a> {
         count
     }
 
-    #[tactic(auto, using(part_model::proofs::Laws::ended_stays, soc_base::proofs::Laws::steps_none, soc_base::proofs::Laws::steps_split))]
+    #[tactic(auto, using(soc_base::proofs::Laws::steps_none, soc_base::proofs::Laws::steps_split))]
     /// Does `count` cycles of the part from `cycle` on. A part that has ended does nothing, and any other in
     /// each cycle what the instruction at pc needs. No byte outside the region changes. Takes no memory.
     pub fn run(&mut self, costs: &Costs, place: Place, cycle: u64, count: u64)

@@ -1,0 +1,33 @@
+-- Several cycles of a tile in one stretch, past the microkernel's of an instance.
+use Rattle.std.specs.Prelude.{ℕ, List, Option, Some, None}
+use Rattle.soc_base.specs.Steps.{after_steps}
+use Rattle.platform_model.specs.declared.costs.Costs.{Costs}
+use Rattle.bundle_model.specs.declared.bundle.Part.{Part}
+use Rattle.rv_core.specs.Registers.{Registers}
+use Rattle.tile_memory.specs.Bytes.{region_bytes}
+use Rattle.trace_log.specs.Log.{Log}
+use Rattle.part_model.specs.Part.{PartState, part_cycle}
+use Rattle.tile_core.specs.Tile.{TileState, place_at}
+use Rattle.tile_core.specs.Cycle.{core_place, held_state, with_state}
+
+-- a part by its words, its region of a memory, and its log
+abbrev pub part_in : Registers → ℕ → List ℕ → Log → Part → PartState
+part_in regs left memory log part = record { regs = regs; left = left; bytes = region_bytes memory part.region; log = log }
+
+-- a part after n cycles in each of which it runs
+abbrev pub ran : Costs → ℕ → ℕ → Part → PartState → PartState
+ran costs cycle n part state = after_steps (part_cycle costs (core_place part)) cycle n state
+
+-- the tile after n cycles of the part that is held, if one is
+abbrev pub ran_part : Costs → ℕ → ℕ → TileState → ℕ → Option Part → TileState
+ran_part costs cycle n tile place None = tile
+ran_part costs cycle n tile place (Some part) =
+    with_state tile place part (ran costs cycle n part (held_state tile place part))
+
+abbrev pub ran_place : (ℕ → Option Part) → Costs → ℕ → ℕ → TileState → Option ℕ → TileState
+ran_place parts costs cycle n tile None = tile
+ran_place parts costs cycle n tile (Some place) = ran_part costs cycle n tile place (parts place)
+
+abbrev pub ran_held : (ℕ → Option Part) → Costs → ℕ → ℕ → TileState → Option ℕ → TileState
+ran_held parts costs cycle n tile None = tile
+ran_held parts costs cycle n tile (Some number) = ran_place parts costs cycle n tile (place_at tile number)
