@@ -2,9 +2,7 @@
 
 -- every grant stands on every tile as its application would alone, and leaves that log
 pub use Rattle.event_core.proofs.Standing.{grants_stand, logs_are_alone}
-
 -- the machine follows its grants, slot by slot
 pub use Rattle.event_core.proofs.Follows.{IsSettled, FollowsOn, Follows, follows_first, follows_next, lockstep_follows}
-
 -- tile number n stands at place n
 pub use Rattle.event_core.proofs.Numbers.{tiles_numbered}
