@@ -35,11 +35,14 @@ stands_at slot grant = nat_lt grant.start slot && lasts_to slot grant.end
 -- whether a grant conflicts with a resource that is asked for from slot `start` on: the grant is open
 -- or ends at `start` or later, and some resource of its bundle meets it
 abbrev pub conflicts : World → ℕ → Resource → Grant → Bool
-conflicts world start resource grant = lasts_to start grant.end && list_any (λ held. meets_of held resource) (grant_resources world grant)
+conflicts world start resource grant =
+    lasts_to start grant.end && list_any (λ held. meets_of held resource) (grant_resources world grant)
 
 -- whether some resource of the one grant meets one of the other
 abbrev pub do_meet : World → Grant → Grant → Bool
-do_meet world one other = list_any (λ resource. list_any (λ held. meets_of held resource) (grant_resources world one)) (grant_resources world other)
+do_meet world one other =
+    list_any (λ resource. list_any (λ held. meets_of held resource) (grant_resources world one))
+    (grant_resources world other)
 
 -- the one grant ends before the other begins
 abbrev pub EndsBefore : Grant → Grant → Type 0
@@ -51,4 +54,5 @@ pub record IsApart (world : World) (grants : List Grant) : Type 0 where
   pub known : All (λ grant. IsSome (bundle_at world grant.bundle)) grants
   pub labelled : AllPairs (λ one other. one.label ≢ other.label) grants
   pub in_order : All (λ grant. IfSome grant.end (λ end. grant.start ≤ end)) grants
-  pub apart : AllPairs (λ one other. IsTrue (do_meet world one other) → EndsBefore one other ⊎ EndsBefore other one) grants
+  pub apart : AllPairs (λ one other.
+      IsTrue (do_meet world one other) → EndsBefore one other ⊎ EndsBefore other one) grants

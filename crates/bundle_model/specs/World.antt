@@ -28,4 +28,5 @@ AreOfLoads loads grants = All (λ grant. Contains loads (record { label = grant.
 
 -- the part on a tile of the bundle at a place of the catalog, if there is one
 abbrev pub part_on : World → ℕ → ℕ → Option Part
-part_on world tile place = option_and_then (λ bundle. find (λ part. part.tile == tile) bundle.parts) (bundle_at world place)
+part_on world tile place =
+    option_and_then (λ bundle. find (λ part. part.tile == tile) bundle.parts) (bundle_at world place)

@@ -8,5 +8,6 @@ pub mod Owners
 pub mod Parts
 pub mod Whole
 pub mod Still
+pub mod Stretches
 pub mod Turns
 pub mod Laws

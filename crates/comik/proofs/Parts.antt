@@ -1,17 +1,14 @@
 -- What a part that comes, a part that leaves and a part's cycle do to the words of the others.
-use Rattle.std.proofs.Common.{◌≡◌, ◌≢◌, ℕ, ◌<◌, ◌≤◌, ◌^◌, ◌==◌, Bool, true, false, cond, ◌&&◌, ◌⊎◌, nat_lt, List, length, get_or, slice_set, Option, Some, None, IfSome, refl, sym, subst, ap, ◌∙◌, inl, inr, arith}
-use Rattle.std.specs.Int.{bit_at}
-use Rattle.std.proofs.lemmas.Bool.{cases_eq, cases_Bool, eq-eqb, ne_eqb, eqb-true, lt-ltb, and_from, and_parts}
-use Rattle.std.proofs.lemmas.List.{get_or-set_same, get_or-set_other, length-set, length-map}
-use Rattle.std.proofs.lemmas.List.Elements.{All-set}
+use Rattle.std.proofs.Common.{◌≡◌, ◌≢◌, ℕ, ◌<◌, ◌≤◌, ◌^◌, ◌==◌, Bool, true, false, cond, ◌⊎◌, List, length, get_or, slice_set, Option, Some, None, IfSome, refl, sym, subst, ap, ◌∙◌, inl, inr, arith}
+use Rattle.std.proofs.lemmas.Bool.{cases_eq, eq-eqb, ne_eqb}
+use Rattle.std.proofs.lemmas.List.{get_or-set_same, get_or-set_other}
 use Rattle.std.proofs.lemmas.Option.{none-some, IfSome_then}
 use Rattle.comik.specs.declared.context.Context.{Context}
-use Rattle.comik.specs.Context.{fresh_context, IsContext}
+use Rattle.comik.specs.Context.{fresh_context}
 use Rattle.comik.specs.Kernel.{KernelState, IsInstalled, AreFree, least_slot, without, owner_at, has, IsKernel}
 use Rattle.comik.specs.Parts.{prepared, cleared}
 use Rattle.comik.specs.Switching.{held_context, context_in, context_of, IsSaved, InStep}
 use Rattle.comik.proofs.Least.{least_is_in, least_below}
-use Rattle.comik.proofs.Owners.{below_claimed, below_freed, below_without, length_claimed, claimed_at, freed_at}
 use Rattle.comik.proofs.Switches.{held_is, of_held, of_other}
 
 not_held : (held : Option ℕ) (file : Context) (frames : List Context) (offset part : ℕ) → has part held ≡ false → context_in held file frames offset part ≡ get_or frames part (fresh_context 0)

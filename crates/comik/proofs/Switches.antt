@@ -1,9 +1,8 @@
 -- What a row of the table keeps.
 use Rattle.std.proofs.Common.{◌≡◌, ℕ, ◌+◌, ◌-◌, ◌<◌, ◌≤◌, ◌==◌, Bool, true, false, cond, ◌&&◌, ◌⊎◌, nat_lt, List, get_or, slice_set, slice_index, length, Option, Some, None, IfSome, All, refl, sym, subst, ap, ◌∙◌, inl, inr, arith}
 use Rattle.std.proofs.lemmas.Bool.{cases_eq, cases_lt, eq-eqb, ne_eqb, lt-ltb, le-ltb, and_left, and_right, and_from}
-use Rattle.std.proofs.lemmas.List.{get_or_past, get_or-set_same, get_or-set_other, length-set}
-use Rattle.std.proofs.lemmas.List.Elements.{All-set, All-get_or}
-use Rattle.std.proofs.lemmas.Option.{IfSome_then}
+use Rattle.std.proofs.lemmas.List.{get_or-set_same, get_or-set_other, length-set}
+use Rattle.std.proofs.lemmas.List.Elements.{All-get_or}
 use Rattle.soc_base.specs.Time.{FrameTimes, offset_at, served_at}
 use Rattle.soc_base.specs.Frame.{IsFrame}
 use Rattle.comik.proofs.Times.{next_offset}
@@ -11,7 +10,7 @@ use Rattle.comik.specs.declared.context.Context.{Context}
 use Rattle.comik.specs.Context.{fresh_context, copied, IsContext}
 use Rattle.comik.specs.Kernel.{KernelState, IsBelow, owner_at}
 use Rattle.comik.specs.Table.{latched, swapped, saved, restored, kernel_row, kernel_cycle}
-use Rattle.comik.specs.Switching.{blend, held_context, context_in, IsSaved, InStep, IsWhole, HasWords, Keeps}
+use Rattle.comik.specs.Switching.{blend, held_context, context_in, IsSaved, InStep, HasWords, Keeps}
 use Rattle.comik.proofs.Blending.{blend_all, saved_more, restored_more, copied_register, copied_left}
 
 abbrev pub state : FrameTimes → Context → List Context → List (Option ℕ) → Option ℕ → Option ℕ → KernelState

@@ -63,8 +63,8 @@ IsBelow bound place = IfSome place (λ part. part < bound)
 abbrev pub AreBelow : ℕ → List (Option ℕ) → Type 0
 AreBelow bound places = All (IsBelow bound) places
 
--- a kernel of which the type's calls speak: it has a frame and an owner for each partition slot, and
--- the parts that own slots, are held and are next are installed
+-- what is true of every kernel: it has a frame and an owner for each partition slot, and the parts that
+-- own slots, are held and are next are installed
 pub record IsKernel (k : KernelState) : Type 0 where
   pub frames : length k.frames ≡ k.times.slots
   pub owners : length k.owners ≡ k.times.slots

@@ -1,12 +1,12 @@
 //! The microkernel: the parts that are installed, and what is kept of them.
 
-ghost use Rattle.std.specs.Prelude.{ℕ, ◌≡◌, ◌≢◌, ◌<◌, ◌^◌, ◌↔◌, IsTrue, IfOk};
+ghost use Rattle.std.specs.Prelude.{ℕ, ◌≡◌, ◌<◌, ◌^◌, ◌↔◌, IsTrue, IfOk};
 ghost use Rattle.std.specs.Borrow.{sem};
 ghost use Rattle.soc_base.specs.Frame.{IsFrame};
 ghost use Rattle.comik.specs.Context.{word_at, fresh_context};
-ghost use Rattle.comik.specs.Kernel.{fresh_kernel, frame_at, IsInstalled, AreFree, IsBelow, IsKernel, least_slot};
+ghost use Rattle.comik.specs.Kernel.{fresh_kernel, frame_at, least_slot, IsInstalled, AreFree, IsBelow, IsKernel};
 ghost use Rattle.comik.specs.Parts.{prepared, cleared};
-ghost use Rattle.comik.specs.Switching.{InStep, context_of};
+ghost use Rattle.comik.specs.Switching.{context_of, LeavesOthers, StaysInStep};
 ghost use Rattle.comik.specs.Lending.{LendsFile};
 
 /// What the microkernel does at the offsets of an instance.
@@ -37,9 +37,23 @@ impl Model for Kernel {
 
     ghost Value = { KernelState };
 
-    ghost view = { λ k. record { times = k.times; file = k.file; frames = k.frames.items; owners = k.owners.items; held = k.held; next = k.next } };
+    ghost view = { λ k. record {
+      times = k.times;
+      file = k.file;
+      frames = k.frames.items;
+      owners = k.owners.items;
+      held = k.held;
+      next = k.next;
+    } };
 
-    ghost invariant = { λ k. IsKernel (record { times = k.times; file = k.file; frames = k.frames.items; owners = k.owners.items; held = k.held; next = k.next }) };
+    ghost invariant = { λ k. IsKernel (record {
+      times = k.times;
+      file = k.file;
+      frames = k.frames.items;
+      owners = k.owners.items;
+      held = k.held;
+      next = k.next;
+    }) };
 }
 
 impl Kernel {
@@ -103,8 +117,8 @@ impl Kernel {
 
         // the words of this part and of the others, before the cycle at any offset
         ensures own { (offset : ℕ) → context_of self.new offset result ≡ fresh_context entry }
-        ensures others { (offset part : ℕ) → part ≢ result → context_of self.new offset part ≡ context_of self.old offset part }
-        ensures step { (offset : ℕ) → InStep self.old offset → InStep self.new offset }
+        ensures others { LeavesOthers self.old result self.new }
+        ensures step { StaysInStep self.old self.new }
     {
         self.install(slots, entry)
     }
@@ -116,8 +130,8 @@ impl Kernel {
         ensures cleared { self.new ≡ cleared self.old part }
 
         // the words of the other parts, before the cycle at any offset
-        ensures others { (offset other : ℕ) → other ≢ part → context_of self.new offset other ≡ context_of self.old offset other }
-        ensures step { (offset : ℕ) → InStep self.old offset → InStep self.new offset }
+        ensures others { LeavesOthers self.old part self.new }
+        ensures step { StaysInStep self.old self.new }
     {
         self.remove(part);
     }

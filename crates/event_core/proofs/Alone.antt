@@ -16,7 +16,7 @@ use Rattle.event_core.specs.Stands.{alone_part}
 use Rattle.bundle_model.proofs.Laws.{find_map}
 use Rattle.event_core.proofs.Runs.{opening_state, state_step, part_run, first_cycle}
 
-map_over : {X Y Z : Type 0} (f : Y → Z) (g : X → Y) (h : X → Z) (xs : List X) → ((k : ℕ) (x : X) → slice_get xs k ≡ Some x → f (g x) ≡ h x) → map f (map g xs) ≡ map h xs
+pub map_over : {X Y Z : Type 0} (f : Y → Z) (g : X → Y) (h : X → Z) (xs : List X) → ((k : ℕ) (x : X) → slice_get xs k ≡ Some x → f (g x) ≡ h x) → map f (map g xs) ≡ map h xs
 map_over f g h [] same = refl
 map_over f g h (x ∷ xs) same = ap₂ (λ z zs. z ∷ zs) (same zero x refl) (map_over f g h xs (λ k y there. same (suc k) y there))
 

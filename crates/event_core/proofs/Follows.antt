@@ -1,5 +1,5 @@
 -- The machine follows its grants: each tile holds its parts, each as it is alone.
-use Rattle.std.proofs.Common.{◌≡◌, ℕ, zero, suc, ◌+◌, ◌*◌, ◌<◌, List, [], map, slice_get, Option, Some, None, option_and_then, refl, sym, subst, ap, ◌∙◌, arith}
+use Rattle.std.proofs.Common.{◌≡◌, ℕ, zero, suc, ◌+◌, ◌*◌, ◌<◌, List, [], slice_get, Option, Some, None, option_and_then, refl, sym, subst, ap, ◌∙◌, arith}
 use Rattle.std.specs.List.{range_with_len}
 use Rattle.std.proofs.lemmas.Option.{none-some, same_Some}
 use Rattle.soc_base.specs.Steps.{after_steps}
@@ -14,12 +14,13 @@ use Rattle.bundle_model.proofs.Laws.{mapped_place}
 use Rattle.trace_log.specs.Log.{new_log}
 use Rattle.part_model.specs.Part.{PartState}
 use Rattle.tile_core.specs.Tile.{TileState, fresh_tile, load_part}
+use Rattle.tile_core.specs.Cycle.{words_of}
 use Rattle.tile_core.specs.Slot.{grant_of, tile_slot}
 use Rattle.tile_core.specs.Fit.{IsMadeFor}
 use Rattle.tile_core.specs.Views.{view_slot, views_slot, place_grant}
 use Rattle.tile_core.specs.Holds.{HoldsGranted}
 use Rattle.tile_core.specs.Lockstep.{Machine, fresh_machine, machine_slot, lockstep}
-use Rattle.event_core.proofs.Given.{holds_first, holds_next, granted_by, fresh_made, slot_made, slot_at, slot_number, slot_loads}
+use Rattle.tile_core.proofs.Laws.{holds_first, fresh_made, fresh_at, slot_holds, slot_made, slot_at, slot_number, slot_loads}
 use Rattle.event_core.proofs.Runs.{run_by, run_before, run_slot}
 
 -- what every lemma here is about
@@ -70,13 +71,35 @@ first_log : (world : World) (grant : Option Grant) (part : Part) (there : Option
 first_log world grant part there is = ap (λ (p : Option Part). (view_by world grant 0 p).log) is ∙ opening_log world grant part
 
 fresh_follows : (world : World) (loads : List LoadName) (grants : List Grant) (number : ℕ) → IsSettled world loads grants → number < world.platform.tiles → FollowsOn world loads grants 0 (fresh_tile world loads number)
-unfolding fresh_tile
 fresh_follows world loads grants number so low =
     let tile = fresh_tile world loads number in
     record {
-      at = refl;
-      made = made_fresh world loads number low;
+      at = fresh_at world loads number;
+      made = fresh_made world loads number low;
       holds = holds_first world loads grants number (view_at world grants 0 tile) so.sound low (λ place part there. first_log world (place_grant grants tile place) part (load_part world tile place) there);
+    }
+
+-- what a tile holds goes by the views of its parts alone
+granted_by : (world : World) (grants : List Grant) (view other : ℕ → PartState) (tile : TileState) → ((place : ℕ) (part : Part) → load_part world tile place ≡ Some part → other place ≡ view place) → HoldsGranted world grants view tile → HoldsGranted world grants other tile
+granted_by world grants view other tile same held =
+    let h = held.holds in
+    record {
+      starts = held.starts;
+      holds = record {
+        frame = h.frame;
+        whole = h.whole;
+        step = h.step;
+        turn = h.turn;
+        installed = h.installed;
+        inside = h.inside;
+        here = λ place part start is begins.
+            let one = h.here place part start is begins in
+            let seen = sym (same place part is) in
+            record { words = one.words ∙ ap (λ (s : PartState). words_of s) seen; bytes = one.bytes ∙ ap (λ (s : PartState). s.bytes) seen; start_is = one.start_is };
+        logs = λ place part is.
+            let one = h.logs place part is in
+            record { inside = one.inside; is = one.is ∙ ap (λ (s : PartState). s.log) (sym (same place part is)) };
+      };
     }
 
 -- over a slot
@@ -94,9 +117,9 @@ places_same world grants slot t after place number loads =
 pub tile_follows : (world : World) (loads : List LoadName) (grants : List Grant) (slot : ℕ) (tile : TileState) → IsSettled world loads grants → FollowsOn world loads grants slot tile → FollowsOn world loads grants (slot + 1) (tile_slot world grants tile)
 tile_follows world loads grants slot tile so follows =
     let after = tile_slot world grants tile in
-    let done = holds_next world loads grants (view_at world grants slot tile) tile so.sound so.apart so.of_loads follows.made follows.holds in
-    let number = slot_number world loads grants tile so.sound.catalog follows.made in
-    let same = slot_loads world loads grants tile so.sound.catalog follows.made in
+    let done = slot_holds world loads grants (view_at world grants slot tile) tile so.sound so.apart so.of_loads follows.made follows.holds in
+    let number = slot_number world loads grants tile so.sound follows.made in
+    let same = slot_loads world loads grants tile so.sound follows.made in
     record {
       at = slot_at world grants tile ∙ ap (λ u. u + 1) follows.at;
       made = slot_made world loads grants tile so.sound.catalog follows.made;

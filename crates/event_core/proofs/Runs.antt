@@ -1,5 +1,5 @@
 -- A part by itself: from its grant's start on it goes cycle by cycle, up to the grant's end.
-use Rattle.std.proofs.Common.{◌≡◌, ℕ, ◌+◌, ◌-◌, ◌*◌, ◌<◌, ◌≤◌, min, Bool, true, false, cond, Option, Some, None, refl, sym, ap, ap₂, ◌∙◌, inl, inr, nat_lt, mul-le-mul_right, true≢false, arith}
+use Rattle.std.proofs.Common.{◌≡◌, ℕ, ◌+◌, ◌-◌, ◌*◌, ◌<◌, ◌≤◌, min, true, false, cond, Option, Some, None, refl, sym, ap, ◌∙◌, inl, inr, nat_lt, mul-le-mul_right, true≢false, arith}
 use Rattle.std.specs.Option.{option_map_or}
 use Rattle.std.proofs.lemmas.Bool.{cases_Bool, and_cases, ltb-false, leb-true, leb-false, and_parts, ltb-true}
 use Rattle.soc_base.specs.Steps.{after_steps}
@@ -9,7 +9,7 @@ use Rattle.bundle_model.specs.declared.bundle.Part.{Part}
 use Rattle.bundle_model.specs.declared.world.World.{World}
 use Rattle.bundle_model.specs.declared.world.Grant.{Grant}
 use Rattle.bundle_model.specs.Grants.{lasts_to, stands_at}
-use Rattle.trace_log.specs.Log.{Log, new_log}
+use Rattle.trace_log.specs.Log.{new_log}
 use Rattle.part_model.specs.Part.{PartState}
 use Rattle.tile_core.specs.Slot.{begins_in}
 use Rattle.tile_core.specs.Views.{granted_step, opening_view, view_slot}

@@ -1,8 +1,8 @@
 //! A port and its moves.
 
-ghost use Rattle.std.specs.Prelude.{◌≡◌, ◌-◌, ◌<◌, ◌≤◌, ◌↔◌, [], length, is_ok, is_some, IsErr, IfOk, unwrap_or, option_map, slice_get, Some};
+ghost use Rattle.std.specs.Prelude.{◌≡◌, ◌-◌, ◌<◌, ◌≤◌, ◌↔◌, [], length, slice_get};
+ghost use Rattle.std.specs.Prelude.{is_ok, is_some, IsErr, IfOk, Some, option_map};
 ghost use Rattle.std.specs.Result.{result_ok};
-ghost use Rattle.std.specs.Option.{option_map_or};
 ghost use Rattle.soc_base.specs.Port.{empty_port, free_port, put, take_word, inject, receive, deliver};
 
 use circular_buffer::HeapCircularBuffer;
@@ -43,7 +43,7 @@ impl Model for Port {
 }
 
 impl Port {
-    ghost use Rattle.ni_port.specs.SizedPort.{in_state, IsWithin};
+    ghost use Rattle.ni_port.specs.SizedPort.{in_state, after_put, after_take, IsWithin};
 
     /// Makes a port with queues of `queue` words (1 to 63). It is empty and has no credit.
     pub fn new(alloc: Global, queue: u8) -> Result<Port, NoMemory>
@@ -79,7 +79,7 @@ impl Port {
     pub fn put(&mut self, word: u32) -> Result<(), Full>
         ensures done { is_ok result ≡ is_some (put self.old.queue word self.old.port) }
         ensures full { IsErr result ↔ (length self.old.port.send ≡ self.old.queue) }
-        ensures port { self.new ≡ in_state self.old (unwrap_or (put self.old.queue word self.old.port) self.old.port) }
+        ensures port { self.new ≡ after_put word self.old }
     {
         match self.send.try_push_back(word) {
             Ok(()) => Ok(()),
@@ -92,7 +92,7 @@ impl Port {
     pub fn take(&mut self) -> Result<u32, Empty>
         ensures word { result_ok result ≡ option_map (λ taken. taken.0) (take_word self.old.port) }
         ensures empty { IsErr result ↔ (self.old.port.recv ≡ []) }
-        ensures port { self.new ≡ in_state self.old (option_map_or (λ taken. taken.1) (take_word self.old.port) self.old.port) }
+        ensures port { self.new ≡ after_take self.old }
     {
         let Some(word) = self.recv.pop_front() else {
             return Err(Empty);

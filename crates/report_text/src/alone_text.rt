@@ -37,7 +37,7 @@ fn put_parts<S: Sink>(printer: &mut Printer<'_, S>, parts: &[PartTrace])
 /// followed, its rows, its parts, and `end`. The start isn't after the end, and the end is at most cycle
 /// 1,000,000,000,063. Fails only where the sink's count of faults rose, and then a front of the text
 /// was written. Takes no memory.
-#[tactic(auto, unfolding(crate::specs::Alone::alone_text), using(soc_io::proofs::Writing::writes_of_printed))]
+#[tactic(auto, unfolding(crate::specs::Alone::alone_text), using(soc_io::proofs::Laws::writes_of_printed))]
 pub fn write_trace<S: Sink>(
     platform: &Platform,
     name: &str,

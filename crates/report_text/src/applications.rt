@@ -125,7 +125,7 @@ fn app_front(label: Label) -> Line
 }
 
 /// Prints an application's first line.
-#[tactic(auto, unfolding(crate::specs::Logs::app_line))]
+#[tactic(auto, unfolding(crate::specs::inner::Logs::app_line))]
 pub fn put_app_line<S: Sink>(printer: &mut Printer<'_, S>, setup: &Setup, grant: &Grant)
     ensures printed { PrintsMore S.written S.faults printer.old printer.new (app_line setup.now grant.now) }
     ensures same { printer.new.sink.ghost_name ≡ printer.old.sink.ghost_name }

@@ -1,5 +1,5 @@
 -- Beginnings of lists that grow.
-use Rattle.std.proofs.Common.{◌≡◌, List, ◌++◌, sym, ◌∙◌, ap, append_assoc}
+use Rattle.std.proofs.Common.{List, ◌++◌, sym, ◌∙◌, ap, append_assoc}
 use mathlib.Core.List.{IsPrefix}
 
 -- what begins a list begins every longer one

@@ -15,7 +15,8 @@ use Rattle.soc_top.specs.declared.inputs.Inputs.{Inputs}
 use Rattle.soc_top.specs.declared.ending.Ending.{Ending}
 use Rattle.soc_top.specs.declared.ending.Ending.TheVariants.{Done, Unwritten, Refused}
 use Rattle.soc_top.proofs.Exchanges.{exchange_of}
-use Rattle.soc_top.specs.Alone.{Cause, Runs, Ends}
+use Rattle.soc_top.specs.Alone.{Cause}
+use Rattle.soc_top.specs.inner.AloneEnds.{Runs, Ends}
 use Rattle.soc_top.specs.inner.Loading.{ReadsPlatform, GetsBundle}
 use Rattle.soc_top.specs.inner.Inputs.{LoadsInputs}
 

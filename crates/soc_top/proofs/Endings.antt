@@ -15,7 +15,8 @@ use Rattle.soc_top.specs.declared.ending.Ending.TheVariants.{Done, Unwritten, Re
 use Rattle.soc_top.specs.Files.{HoldsPlatform, BreaksPlatform, HoldsBundle, BreaksBundle}
 use Rattle.soc_top.specs.Faults.{fault_line, fault_status, ending_status}
 use Rattle.soc_top.specs.Exchange.{Exchange, Says}
-use Rattle.soc_top.specs.Alone.{IsReached, ToldCause, Cause, Refuses, IsDecided, TextOf, Ends, AloneAnswers}
+use Rattle.soc_top.specs.Alone.{IsReached, ToldCause, Cause, Refuses, IsDecided, TextOf, AloneAnswers}
+use Rattle.soc_top.specs.inner.AloneEnds.{Ends}
 use Rattle.soc_top.proofs.Causes.{memory_cause}
 use Rattle.soc_top.proofs.Exclusive.{none_or_some, platform_or_rule, one_platform, bundle_or_rule}
 use Rattle.soc_top.proofs.Statuses.{at_two, at_three, at_four, at_five, at_seven, never}

@@ -11,7 +11,7 @@ use Rattle.soc_top.specs.declared.ending.Ending.{Ending}
 use Rattle.soc_top.specs.declared.ending.Ending.TheVariants.{Done, Unwritten, Refused}
 use Rattle.soc_top.proofs.Exchanges.{exchange_of}
 use Rattle.soc_top.specs.Setups.{bundle_names, RunFault, LoadsSetup}
-use Rattle.soc_top.specs.Run.{Reports, EndsRun}
+use Rattle.soc_top.specs.inner.RunEnds.{Reports, EndsRun}
 use Rattle.soc_top.specs.inner.Loading.{ReadsPlatform, ReadsScript}
 use Rattle.soc_top.specs.inner.Naming.{LacksCatalog}
 

@@ -13,7 +13,8 @@ use Rattle.soc_top.specs.declared.ending.Ending.TheVariants.{Done, Unwritten, Re
 use Rattle.soc_top.specs.Exchange.{Exchange, Says}
 use Rattle.soc_top.specs.Faults.{fault_line, fault_status, ending_status}
 use Rattle.soc_top.specs.Setups.{GivesSetup, RunFault, IsDecidedFault, AllowsRun}
-use Rattle.soc_top.specs.Run.{ReportOf, RefusesRun, EndsRun, RunAnswers}
+use Rattle.soc_top.specs.Run.{ReportOf, RefusesRun, RunAnswers}
+use Rattle.soc_top.specs.inner.RunEnds.{EndsRun}
 use Rattle.soc_top.proofs.Catalogs.{all_there}
 use Rattle.soc_top.proofs.Decided.{undecided, as_decided, one_status}
 use Rattle.soc_top.proofs.Statuses.{at_two, at_three, at_four, at_five, at_seven, never}

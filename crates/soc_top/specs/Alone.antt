@@ -1,9 +1,9 @@
 -- The command `alone`: in which order it is decided, and what it writes.
-use Rattle.std.specs.Prelude.{◌≡◌, ℕ, Bool, ◌⊎◌, max, List, Option, Some, None}
+use Rattle.std.specs.Prelude.{◌≡◌, ℕ, ◌⊎◌, max, List, Option, Some, None}
 use Rattle.soc_base.specs.Time.{slot_up_of}
 use Rattle.soc_io.specs.Counts.{Rose}
 use Rattle.soc_io.specs.Reading.{Held, held_at}
-use Rattle.soc_io.specs.Writing.{Appends, AppendsFront, Printed}
+use Rattle.soc_io.specs.Writing.{Appends, AppendsFront}
 use Rattle.platform_model.specs.declared.platform.Platform.{Platform}
 use Rattle.platform_model.specs.declared.rules.PRule.{PRule}
 use Rattle.bundle_model.specs.declared.bundle.Bundle.{Bundle}
@@ -15,9 +15,7 @@ use Rattle.report_text.specs.Alone.{alone_text}
 use Rattle.soc_top.specs.declared.request.AloneWords.{AloneWords}
 use Rattle.soc_top.specs.declared.fault.TopFault.{TopFault}
 use Rattle.soc_top.specs.declared.fault.TopFault.TheVariants.{Platform as BadPlatform, ScriptTooLong, Script, Bundle as BadBundle, Absent, Read, NoMemory}
-use Rattle.soc_top.specs.declared.inputs.Inputs.{Inputs}
 use Rattle.soc_top.specs.declared.ending.Ending.{Ending}
-use Rattle.soc_top.specs.declared.ending.Ending.TheVariants.{Done, Unwritten, Refused}
 use Rattle.soc_top.specs.Files.{HoldsPlatform, BreaksPlatform, HoldsBundle, BreaksBundle}
 use Rattle.soc_top.specs.declared.request.Request.TheVariants.{Alone}
 use Rattle.soc_top.specs.Request.{asked_of}
@@ -94,29 +92,10 @@ AloneText held request text =
     (platform : Platform) × (bundle : Bundle) × HoldsPlatform held request.platform platform
     × HoldsBundle platform held request.bundle bundle × IsAloneText platform bundle request text
 
--- how the run of a request ends, once its files gave a platform and a bundle: its text is written, or
--- memory was wanted
-abbrev pub Runs : Option (List ℕ) → ℕ → Option (List ℕ) → ℕ → Inputs → AloneWords → Ending → Type 0
-Runs old before new now inputs request Done =
-    (text : List ℕ) × IsAloneText inputs.platform inputs.bundle request text × Appends old text new
-Runs old before new now inputs request Unwritten =
-    (text : List ℕ) × IsAloneText inputs.platform inputs.bundle request text × AppendsFront old text new
-        × Rose before now
-Runs old before new now inputs request (Refused fault) =
-    (fault ≡ NoMemory) × ((failed : Bool) × Printed (fault_line fault) old before new now failed)
-
 -- where files are told, the text is that of the files' bytes
 abbrev pub TextOf : Option Held → AloneWords → List ℕ → Type 0
 TextOf (Some held) request text = AloneText held request text
 TextOf None request text = Unit {0}
-
--- how a request may end: its text is written, or a front of it where a write failed, or it is refused
-abbrev pub Ends : Exchange → AloneWords → Ending → Type 0
-Ends e request Done = (text : List ℕ) × TextOf e.held request text × Appends e.written text e.written_now
-Ends e request Unwritten =
-    (text : List ℕ) × TextOf e.held request text × AppendsFront e.written text e.written_now
-        × Rose e.write_faults e.write_faults_now
-Ends e request (Refused fault) = Refuses e request fault
 
 -- how the request may end with a status
 pub record AloneAnswers (e : Exchange) (request : AloneWords) (status : ℕ) : Type 0 where

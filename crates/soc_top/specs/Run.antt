@@ -1,8 +1,8 @@
 -- The command `run`: what it writes, and in which order it is decided.
-use Rattle.std.specs.Prelude.{◌≡◌, ℕ, Bool, ◌⊎◌, List, Option, Some, None}
+use Rattle.std.specs.Prelude.{◌≡◌, ℕ, ◌⊎◌, List, Option, Some, None}
 use Rattle.soc_io.specs.Counts.{Rose}
 use Rattle.soc_io.specs.Reading.{Held}
-use Rattle.soc_io.specs.Writing.{Appends, AppendsFront, Printed}
+use Rattle.soc_io.specs.Writing.{Appends, AppendsFront}
 use Rattle.platform_model.specs.declared.rules.PRule.{PRule}
 use Rattle.script_file.specs.declared.rules.ScriptFault.{ScriptFault}
 use Rattle.vep_manager.specs.declared.setup.Setup.{Setup}
@@ -12,8 +12,6 @@ use Rattle.report_text.specs.Report.{IsReport}
 use Rattle.soc_top.specs.declared.request.RunWords.{RunWords}
 use Rattle.soc_top.specs.declared.fault.TopFault.{TopFault}
 use Rattle.soc_top.specs.declared.fault.TopFault.TheVariants.{Platform, ScriptTooLong, Script, Absent, Read, NoMemory}
-use Rattle.soc_top.specs.declared.ending.Ending.{Ending}
-use Rattle.soc_top.specs.declared.ending.Ending.TheVariants.{Done, Unwritten, Refused}
 use Rattle.soc_top.specs.declared.request.Request.TheVariants.{Run}
 use Rattle.soc_top.specs.Request.{asked_of}
 use Rattle.soc_top.specs.Exchange.{Exchange, Says}
@@ -33,22 +31,6 @@ ReportOf None request text = Unit {0}
 -- the request is refused for this cause and with this line
 abbrev pub RefusesRun : Exchange → RunWords → TopFault → Type 0
 RefusesRun e request fault = RunFault e.held e.read_faults e.read_faults_now request fault × Says e (fault_line fault)
-
--- how the report of a setup is written, or that memory was wanted
-abbrev pub Reports : Option (List ℕ) → ℕ → Option (List ℕ) → ℕ → Setup → Ending → Type 0
-Reports old before new now setup Done = (text : List ℕ) × IsReportOf setup text × Appends old text new
-Reports old before new now setup Unwritten =
-    (text : List ℕ) × IsReportOf setup text × AppendsFront old text new × Rose before now
-Reports old before new now setup (Refused fault) =
-    (fault ≡ NoMemory) × ((failed : Bool) × Printed (fault_line fault) old before new now failed)
-
--- how the request may end: its report is written, or a front of it where a write failed, or it is refused
-abbrev pub EndsRun : Exchange → RunWords → Ending → Type 0
-EndsRun e request Done = (text : List ℕ) × ReportOf e.held request text × Appends e.written text e.written_now
-EndsRun e request Unwritten =
-    (text : List ℕ) × ReportOf e.held request text × AppendsFront e.written text e.written_now
-        × Rose e.write_faults e.write_faults_now
-EndsRun e request (Refused fault) = RefusesRun e request fault
 
 -- how the request may end with a status
 pub record RunAnswers (e : Exchange) (request : RunWords) (status : ℕ) : Type 0 where

@@ -2,3 +2,5 @@
 pub mod Loading
 pub mod Inputs
 pub mod Naming
+pub mod AloneEnds
+pub mod RunEnds

@@ -4,7 +4,8 @@ ghost use Rattle.std.specs.Prelude.{◌≡◌, ◌*◌, ◌≤◌};
 ghost use Rattle.bundle_model.specs.WellFormed.{IsWellFormed};
 ghost use Rattle.soc_top.specs.Request.{IsInForm};
 ghost use Rattle.soc_top.specs.Exchange.{exchanged};
-ghost use Rattle.soc_top.specs.Alone.{first_slot, last_slot, Ends, Runs, AloneAnswers};
+ghost use Rattle.soc_top.specs.Alone.{first_slot, last_slot, AloneAnswers};
+ghost use Rattle.soc_top.specs.inner.AloneEnds.{Ends, Runs};
 
 use crate::ending::{Ending, code, refuse};
 use crate::fault::TopFault;

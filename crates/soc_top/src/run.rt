@@ -4,7 +4,8 @@ ghost use Rattle.std.specs.Prelude.{◌≡◌, ◌≤◌};
 ghost use Rattle.vep_manager.specs.Setup.{IsSound};
 ghost use Rattle.soc_top.specs.Request.{IsRunInForm};
 ghost use Rattle.soc_top.specs.Exchange.{exchanged};
-ghost use Rattle.soc_top.specs.Run.{Reports, EndsRun, RunAnswers};
+ghost use Rattle.soc_top.specs.Run.{RunAnswers};
+ghost use Rattle.soc_top.specs.inner.RunEnds.{Reports, EndsRun};
 
 use crate::ending::{Ending, code, refuse};
 use crate::fault::TopFault;

@@ -3,6 +3,7 @@
 use crate::tests::{A, PLATFORM, bundle, expect_run, filler};
 use soc_io::{MemFiles, MemSink};
 use std::alloc::Global;
+use std::process::Abort;
 use std::test::Fail;
 
 // The files of the refusals with this script, of which the read with this number fails.
@@ -17,6 +18,22 @@ fn shelf(alloc: Global, script: &str, read: u64) -> Result<MemFiles, Fail> {
     files.add("long.toml", filler(alloc, 4_194_305)?.as_slice())?;
     files.add("s.txt", script.as_bytes())?;
     Ok(files)
+}
+
+// Runs this script over the shelf, of which the read with this number fails, and checks the status and
+// what was written.
+fn expect_script(
+    rt: &impl Abort,
+    alloc: Global,
+    script: &str,
+    read: u64,
+    status: u8,
+    text: &str,
+) -> Result<(), Fail> {
+    let mut files = shelf(alloc, script, read)?;
+    let mut sink = MemSink::new(alloc, 4096, Vec::new(alloc))?;
+    let line = "run one.toml 384 s.txt";
+    expect_run(rt, &mut files, &mut sink, alloc, line, status, text)
 }
 
 #[test]
@@ -122,17 +139,7 @@ fn faults_of_scripts_and_bundle_files(rt: HostRuntime) -> Result<(), Fail> {
         ),
     ];
     for (script, read, status, text) in cases {
-        let mut files = shelf(alloc, script, read)?;
-        let mut sink = MemSink::new(alloc, 4096, Vec::new(alloc))?;
-        expect_run(
-            &rt,
-            &mut files,
-            &mut sink,
-            alloc,
-            "run one.toml 384 s.txt",
-            status,
-            text,
-        )?;
+        expect_script(&rt, alloc, script, read, status, text)?;
     }
     Ok(())
 }
@@ -149,17 +156,7 @@ fn commands_up_to_the_limit(rt: HostRuntime) -> Result<(), Fail> {
         for _ in 0..count {
             script.push_str("load no.toml at 0\n")?;
         }
-        let mut files = shelf(alloc, script.as_str(), 0)?;
-        let mut sink = MemSink::new(alloc, 4096, Vec::new(alloc))?;
-        expect_run(
-            &rt,
-            &mut files,
-            &mut sink,
-            alloc,
-            "run one.toml 384 s.txt",
-            status,
-            text,
-        )?;
+        expect_script(&rt, alloc, script.as_str(), 0, status, text)?;
     }
     Ok(())
 }

@@ -37,7 +37,8 @@ slot_of (Deliver slot input port) = slot
 abbrev pub with_entry : Label → TableEntry → Row → Row
 with_entry label (Inject slot port) row = record row { inject = held_by label port }
 with_entry label (Out out slot source) row = record row { outs = slice_set row.outs out (held_by label source) }
-with_entry label (Deliver slot input port) row = record row { deliver = held_by label (record { input = input; port = port }) }
+with_entry label (Deliver slot input port) row =
+    record row { deliver = held_by label (record { input = input; port = port }) }
 
 abbrev pub installed : Label → TableEntry → List Row → List Row
 installed label entry rows = slice_set rows (slot_of entry) (with_entry label entry (row_at rows (slot_of entry)))
@@ -48,7 +49,11 @@ kept label None = None
 kept label (Some entry) = if same_label entry.label label then None else Some entry
 
 abbrev pub kept_row : Label → Row → Row
-kept_row label row = record { inject = kept label row.inject; outs = map (kept label) row.outs; deliver = kept label row.deliver }
+kept_row label row = record {
+  inject = kept label row.inject;
+  outs = map (kept label) row.outs;
+  deliver = kept label row.deliver;
+}
 
 -- the tables without a label's entries
 abbrev pub removed : Label → List Row → List Row

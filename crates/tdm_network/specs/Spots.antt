@@ -37,7 +37,8 @@ in_role role entry = record { label = entry.label; what = role entry.what }
 abbrev pub spots_of : List Row → Spots
 spots_of rows (InjectRow slot) = option_map (in_role Sends) (row_at rows slot).inject
 spots_of rows (OutRow out slot) = option_map (in_role Takes) (get_or (row_at rows slot).outs out None)
-spots_of rows (DropRow slot) = option_map (in_role (λ arrival. Receives arrival.input arrival.port)) (row_at rows slot).deliver
+spots_of rows (DropRow slot) =
+    option_map (in_role (λ arrival. Receives arrival.input arrival.port)) (row_at rows slot).deliver
 
 -- the place of an entry, and what it says there
 abbrev pub spot_of : TableEntry → Spot
@@ -58,7 +59,8 @@ same_spot _ _ = false
 
 -- with an entry more, all other places as they were
 abbrev pub with_spot : Label → TableEntry → Spots → Spots
-with_spot label entry spots spot = if same_spot (spot_of entry) spot then Some (record { label = label; what = role_of entry }) else spots spot
+with_spot label entry spots spot =
+    if same_spot (spot_of entry) spot then Some (record { label = label; what = role_of entry }) else spots spot
 
 -- without a label's entries, all other places as they were
 abbrev pub without_label : Label → Spots → Spots
@@ -105,6 +107,7 @@ pub record IsInRange (table_slots : ℕ) (entry : TableEntry) : Type 0 where
 -- The place that is printed as (table, row, slot): table 0 injects, 1 has a row for each output, 2 delivers.
 abbrev pub told : ℕ → ℕ → ℕ → List Row → Option (Label × TableEntry)
 told table row slot rows =
-    if table == 0 then option_map (λ entry. (entry.label, Inject slot entry.what)) (row_at rows slot).inject
-    else if table == 1 then option_map (λ entry. (entry.label, Out row slot entry.what)) (get_or (row_at rows slot).outs row None)
-    else option_map (λ entry. (entry.label, Deliver slot entry.what.input entry.what.port)) (row_at rows slot).deliver
+    let places = row_at rows slot in
+    if table == 0 then option_map (λ entry. (entry.label, Inject slot entry.what)) places.inject
+    else if table == 1 then option_map (λ entry. (entry.label, Out row slot entry.what)) (get_or places.outs row None)
+    else option_map (λ entry. (entry.label, Deliver slot entry.what.input entry.what.port)) places.deliver

@@ -5,7 +5,7 @@ use Rattle.std.proofs.lemmas.Option.{same_Some, none-some, IfSome_then}
 use Rattle.soc_base.specs.Time.{FrameTimes, offset_at}
 use Rattle.bundle_model.specs.declared.bundle.Part.{Part}
 use Rattle.tile_memory.specs.Bytes.{IsInside, with_region, filled_bytes}
-use Rattle.tile_memory.proofs.Regions.{region-with_region, length-with_region, length-filled_bytes}
+use Rattle.tile_memory.proofs.Laws.{region-with_region, length-with_region, length-filled_bytes}
 use Rattle.part_model.specs.Part.{PartState}
 use Rattle.comik.specs.Kernel.{IsInstalled, owner_at}
 use Rattle.comik.proofs.Laws.{cleared_others, cleared_in_step, whole_cleared, prepared_own, prepared_others, prepared_in_step, whole_prepared, installed_apart, turn_cleared, turn_prepared}

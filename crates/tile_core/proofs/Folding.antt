@@ -22,7 +22,7 @@ use Rattle.tile_core.specs.Slot.{removed, removed_if, after_end, installed, inst
 use Rattle.tile_core.specs.Fit.{AreInstalled}
 use Rattle.tile_core.specs.Views.{opening_view}
 use Rattle.tile_core.proofs.Coming.{IsRoom}
-use Rattle.tile_core.proofs.Lists.{passing_place, no_place}
+use Rattle.bundle_model.proofs.Laws.{passing_place, no_place}
 use Rattle.tile_core.proofs.Standing.{AreLabelled, first_apart, rest_apart, touched}
 use Rattle.tile_core.proofs.Sites.{site_part}
 

@@ -11,7 +11,7 @@ use Rattle.bundle_model.specs.declared.world.World.{World}
 use Rattle.bundle_model.specs.declared.world.LoadName.{LoadName}
 use Rattle.bundle_model.specs.declared.world.Grant.{Grant}
 use Rattle.bundle_model.specs.World.{same_label, part_on}
-use Rattle.bundle_model.proofs.Laws.{at_place, contained_place, same_so}
+use Rattle.bundle_model.proofs.Laws.{at_place, contained_place, filtered_at, same_so}
 use Rattle.trace_log.specs.Log.{Log, new_log}
 use Rattle.part_model.specs.Part.{PartState}
 use Rattle.comik.specs.declared.context.Context.{Context}
@@ -20,7 +20,7 @@ use Rattle.tile_core.specs.Tile.{TileState, loads_on, number_of, place_at, log_a
 use Rattle.tile_core.specs.Cycle.{words_of}
 use Rattle.tile_core.specs.Fit.{granted_from}
 use Rattle.tile_core.specs.Holds.{HoldsGranted}
-use Rattle.tile_core.proofs.Lists.{no_place, passing_place}
+use Rattle.bundle_model.proofs.Laws.{no_place, passing_place}
 use Rattle.tile_core.proofs.Sites.{IsSite, loads_keyed, load_has, bundle_is}
 
 -- what passes at one place alone is found there
@@ -39,19 +39,6 @@ pub place_is : (world : World) (all : List LoadName) (grants : List Grant) (t : 
 place_is world all grants t place load label site there same =
     position_at (λ (l : LoadName). same_label l.label label) t.loads place load (load_place t label) refl there (same_from load.label label same)
     (λ j other at passes. loads_keyed world all t.loads grants t.number site j place other load at there (same_so other.label label passes ∙ sym same))
-
--- an item that passes stays
-filtered_at : {X : Type 0} (p : X → Bool) (xs : List X) (i : ℕ) (x : X) → slice_get xs i ≡ Some x → p x ≡ true → (k : ℕ) × (slice_get (filter p xs) k ≡ Some x)
-filtered_at p [] i x there passes = absurd (none-some x there)
-filtered_at p (y ∷ xs) zero x there passes =
-    let same : y ≡ x = same_Some y x there in
-    (zero, ap (λ rest. slice_get rest zero) (cond-true (p y) (y ∷ filter p xs) (filter p xs) (ap p same ∙ passes)) ∙ there)
-filtered_at p (y ∷ xs) (suc i) x there passes =
-    let rest = filtered_at p xs i x there passes in
-    elim (cases_Bool (p y)) [
-      | inl kept ↦ (suc rest.0, ap (λ zs. slice_get zs (suc rest.0)) (cond-true (p y) (y ∷ filter p xs) (filter p xs) kept) ∙ rest.1)
-      | inr cut ↦ (rest.0, ap (λ zs. slice_get zs rest.0) (cond-false (p y) (y ∷ filter p xs) (filter p xs) cut) ∙ rest.1)
-    ]
 
 -- the place of a grant's load, where it has a part on the tile
 pub grant_place : (world : World) (all : List LoadName) (grants : List Grant) (t : TileState) (k : ℕ) (grant : Grant) (part : Part) → IsSite world all t.loads grants t.number → slice_get grants k ≡ Some grant → part_on world t.number grant.bundle ≡ Some part → (place : ℕ) × (slice_get t.loads place ≡ Some (record { label = grant.label; bundle = grant.bundle }))

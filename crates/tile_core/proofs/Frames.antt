@@ -3,7 +3,7 @@ use Rattle.std.proofs.Common.{◌≡◌, ℕ, ◌+◌, ◌-◌, ◌≤◌, ◌�
 use Rattle.std.proofs.lemmas.List.{drop-take, drop-drop, take-take}
 use Rattle.soc_base.specs.declared.region.Region.{Region}
 use Rattle.tile_memory.specs.Bytes.{IsInside, region_bytes, with_region}
-use Rattle.tile_memory.proofs.Regions.{take-with_region, drop-with_region}
+use Rattle.tile_memory.proofs.Laws.{take-with_region, drop-with_region}
 
 -- a region is read from the bytes up to its end
 region_of_front : (xs : List ℕ) (region : Region) (n : ℕ) → region.base + region.len ≤ n → region_bytes xs region ≡ region_bytes (take n xs) region

@@ -12,7 +12,7 @@ use Rattle.bundle_model.specs.declared.bundle.Part.{Part}
 use Rattle.soc_base.specs.Slots.{slots_of}
 use Rattle.soc_base.proofs.Laws.{among_slots}
 use Rattle.tile_memory.specs.Bytes.{with_region}
-use Rattle.tile_memory.proofs.Regions.{region-with_region, length-with_region, length-region_bytes}
+use Rattle.tile_memory.proofs.Laws.{region-with_region, length-with_region, length-region_bytes}
 use Rattle.trace_log.specs.Log.{Log, new_log}
 use Rattle.part_model.specs.Part.{PartState, part_cycle}
 use Rattle.comik.specs.declared.context.Context.{Context}
@@ -30,7 +30,7 @@ use Rattle.tile_core.specs.Views.{view_step}
 use Rattle.tile_core.specs.Holds.{IsHere, IsLogged, Holds}
 use Rattle.tile_core.proofs.Installed.{IsOwner, owner_is, installed_same, numbers_apart}
 use Rattle.tile_core.proofs.Frames.{region_stays}
-use Rattle.tile_core.proofs.Sizes.{cycle_keeps as bytes_kept}
+use Rattle.part_model.proofs.Laws.{cycle_size as bytes_kept}
 use Rattle.tile_core.proofs.Shapes.{cycle_shape}
 
 -- no part runs in the microkernel's cycles

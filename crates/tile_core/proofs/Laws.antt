@@ -5,8 +5,8 @@
 pub use Rattle.tile_core.proofs.Fresh.{fresh_made, fresh_fits, fresh_at, holds_first}
 
 -- a slot: what the tile was made for stays, it is fit again, and it holds its parts, each after the slot
-pub use Rattle.tile_core.proofs.Made.{IsAlike, slot_made, slot_at, cycles_kept, settled_alike}
-pub use Rattle.tile_core.proofs.Slots.{site_of, slot_fits, slot_holds, slot_number, slot_loads, frame_is}
+pub use Rattle.tile_core.proofs.Made.{frame_is, IsAlike, slot_made, slot_at, cycles_kept, settled_alike}
+pub use Rattle.tile_core.proofs.Slots.{site_of, slot_fits, slot_holds, slot_number, slot_loads}
 
 -- the loads of a tile, their parts and their grants
 pub use Rattle.tile_core.proofs.Sites.{IsSite, loads_keyed, load_has, bundle_is}
@@ -18,6 +18,3 @@ pub use Rattle.tile_core.proofs.Settling.{own_grant}
 
 -- what a tile answers of the load at a place
 pub use Rattle.tile_core.proofs.Found.{place_is, grant_place, no_grant_place, log_found, state_found, state_none}
-
--- what a cycle of a part keeps: the size of its region
-pub use Rattle.tile_core.proofs.Sizes.{cycle_keeps}

@@ -1,14 +1,12 @@
 pub mod Memory
 pub mod Installed
 pub mod Frames
-pub mod Sizes
 pub mod Shapes
 pub mod Holding
 pub mod Coming
 pub mod Going
 pub mod Standing
 pub mod Sites
-pub mod Lists
 pub mod Folding
 pub mod Rooms
 pub mod Starting
@@ -19,3 +17,6 @@ pub mod Slots
 pub mod Fresh
 pub mod Found
 pub mod Laws
+pub mod Stretches
+pub mod Ready
+mod Pairs

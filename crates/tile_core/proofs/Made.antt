@@ -1,6 +1,7 @@
 -- What a tile was made for stays: in a part that leaves or comes, in a cycle, and in a slot.
 use Rattle.std.proofs.Common.{◌≡◌, ℕ, zero, suc, ◌+◌, ◌*◌, ◌<◌, ◌≤◌, Bool, true, false, cond, nat_lt, List, [], ◌∷◌, filter, fold, length, slice_get, Option, Some, None, option_and_then, refl, sym, subst, ap, ap₂, ◌∙◌, arith}
 use Rattle.std.proofs.lemmas.List.{length-map, length-set}
+use Rattle.soc_base.specs.Frame.{IsFrame}
 use Rattle.soc_base.specs.Steps.{after_steps}
 use Rattle.soc_base.specs.Time.{FrameTimes, offset_at, served_at}
 use Rattle.platform_model.specs.declared.costs.Costs.{Costs}
@@ -13,7 +14,7 @@ use Rattle.bundle_model.specs.World.{part_on, IsSoundCatalog}
 use Rattle.bundle_model.specs.WellFormed.{IsWellFormedPart}
 use Rattle.bundle_model.proofs.Laws.{is_part_on}
 use Rattle.tile_memory.specs.Bytes.{IsInside, filled_bytes}
-use Rattle.tile_memory.proofs.Regions.{length-with_region, length-filled_bytes, length-region_bytes}
+use Rattle.tile_memory.proofs.Laws.{length-with_region, length-filled_bytes, length-region_bytes}
 use Rattle.part_model.specs.Part.{PartState, part_cycle}
 use Rattle.comik.specs.Kernel.{without}
 use Rattle.comik.specs.Table.{kernel_cycle}
@@ -23,7 +24,18 @@ use Rattle.tile_core.specs.Tile.{TileState, number_of, place_at, load_part, load
 use Rattle.tile_core.specs.Cycle.{core_place, held_state, with_state, run_part, run_place, run_held, tile_cycle}
 use Rattle.tile_core.specs.Slot.{ends_in, begins_in, removed, removed_if, after_end, with_ends, installed, installed_if, installed_at, after_start, with_starts, with_cycles, tile_slot}
 use Rattle.tile_core.specs.Fit.{IsMadeFor}
-use Rattle.tile_core.proofs.Sizes.{cycle_keeps as bytes_kept}
+use Rattle.part_model.proofs.Laws.{cycle_size as bytes_kept}
+
+-- the frame of a platform
+pub frame_is : (world : World) → IsFrame (frame_of world.platform)
+frame_is world = record {
+  kernel_least = world.platform.kernel_cycles_in_range.0;
+  kernel_most = world.platform.kernel_cycles_in_range.1;
+  partition_least = world.platform.partition_cycles_in_range.0;
+  partition_most = world.platform.partition_cycles_in_range.1;
+  slots_least = world.platform.partition_slots_in_range.0;
+  slots_most = world.platform.partition_slots_in_range.1;
+}
 
 -- the part of a load on a tile is sound
 pub load_part_sound : (world : World) (t : TileState) (place : ℕ) (part : Part) → IsSoundCatalog world → load_part world t place ≡ Some part → IsWellFormedPart world.platform part

@@ -35,7 +35,7 @@ use Rattle.tile_core.proofs.Rooms.{AreStanding, apart_at}
 use Rattle.tile_core.proofs.Starting.{opened, views_with}
 use Rattle.tile_core.proofs.Settling.{HoldsSome, goes_installed, goes_holds, granted_mid, ended, begun}
 use Rattle.tile_core.proofs.Turns.{begun_stands}
-use Rattle.tile_core.proofs.Made.{IsAlike, alike_more, made_alike, parts_alike, cycles_kept, settled_alike}
+use Rattle.tile_core.proofs.Made.{frame_is, IsAlike, alike_more, made_alike, parts_alike, cycles_kept, settled_alike}
 
 -- a tile that was made for a world, beside the world and the grants
 pub site_of : (world : World) (all : List LoadName) (grants : List Grant) (t : TileState) → IsSoundWorld world all → IsApart world grants → AreOfLoads all grants → IsMadeFor world all t → IsSite world all t.loads grants t.number
@@ -113,17 +113,6 @@ parted : (world : World) (all : List LoadName) (grants : List Grant) (t : TileSt
 parted world all grants t site i j one other s e differ one_is one_begins other_is other_begins =
     let standing : AreStanding world grants (t.at + 1) t.loads (site_granted world grants (t.at + 1) t.loads) = λ place start begins. site_granted_is world grants (t.at + 1) t.loads place start begins in
     (apart_at world all t.loads grants t.number (t.at + 1) (site_granted world grants (t.at + 1) t.loads) i j s e one other site standing differ (standing i s one_begins) other_begins one_is other_is).regions
-
--- the frame of a platform
-pub frame_is : (world : World) → IsFrame (frame_of world.platform)
-frame_is world = record {
-  kernel_least = world.platform.kernel_cycles_in_range.0;
-  kernel_most = world.platform.kernel_cycles_in_range.1;
-  partition_least = world.platform.partition_cycles_in_range.0;
-  partition_most = world.platform.partition_cycles_in_range.1;
-  slots_least = world.platform.partition_slots_in_range.0;
-  slots_most = world.platform.partition_slots_in_range.1;
-}
 
 holds_at : (times : FrameTimes) (parts : ℕ → Option Part) (granted : ℕ → Option ℕ) (starts : ℕ → ℕ) (view : ℕ → PartState) (cycle at : ℕ) (t : TileState) → Holds times parts granted starts view cycle t → Holds times parts granted starts view cycle (record t { at = at })
 holds_at times parts granted starts view cycle at t h = record {

@@ -97,7 +97,7 @@ only : (b : Bool) → ((b && true) || false) ≡ b
 only true = refl
 only false = refl
 
-untouched : (p : Grant → Bool) (label : Label) (grants : List Grant) → All (λ other. label ≢ other.label) grants → touched p grants label ≡ false
+pub untouched : (p : Grant → Bool) (label : Label) (grants : List Grant) → All (λ other. label ≢ other.label) grants → touched p grants label ≡ false
 untouched p label [] apart = refl
 untouched p label (grant ∷ grants) apart =
     let differ = All-head (λ other. label ≢ other.label) grant grants apart in

@@ -52,9 +52,9 @@ come_by world number at loads slots t grant place is found =
     first None = refl
     first (Some i) = refl
 
-pub fold_in : (world : World) (all_loads loads : List LoadName) (all : List Grant) (number at slot : ℕ) (R : (ℕ → Option ℕ) → (ℕ → PartState) → TileState → Type 0) → IsSite world all_loads loads all number → GoesOn world.platform.partition_slots (site_part world number loads) (slot * world.platform.slot_cycles) R → HaveParts (site_part world number loads) loads → (p : Grant → Bool) (grants : List Grant) (granted : ℕ → Option ℕ) (view : ℕ → PartState) (t : TileState) → AreLabelled grants → IsTile number at loads world.platform.partition_slots t → AreStarts p grants all slot loads granted → AreStanding world all (slot + 1) loads granted → R granted view t → R (granted_with (slot * world.platform.slot_cycles) p grants loads granted) (views_with p grants loads (site_part world number loads) view) (fold (after_start world) t (filter p grants)) × IsTile number at loads world.platform.partition_slots (fold (after_start world) t (filter p grants))
+pub fold_in : (world : World) (all_loads loads : List LoadName) (all : List Grant) (number at slot : ℕ) (R : (ℕ → Option ℕ) → (ℕ → PartState) → TileState → Type 0) → IsSite world all_loads loads all number → GoesOn world.platform.partition_slots (site_part world number loads) (slot * world.platform.slot_cycles) R → HaveParts (site_part world number loads) loads → (p : Grant → Bool) (grants : List Grant) (granted : ℕ → Option ℕ) (view : ℕ → PartState) (t : TileState) → AreLabelled grants → IsTile number at loads world.platform.partition_slots t → AreStarts p grants all slot loads granted → AreStanding world all (slot + 1) loads granted → R granted view t → R (granted_with (slot * world.platform.slot_cycles) p grants loads granted) (views_with p grants loads (site_part world number loads) view) (fold (after_start world) t (filter p grants)) × IsTile number at loads world.platform.partition_slots (fold (after_start world) t (filter p grants)) × AreStanding world all (slot + 1) loads (granted_with (slot * world.platform.slot_cycles) p grants loads granted)
 fold_in world all_loads loads all number at slot R site goes have p [] granted view t labelled is starts standing holds =
-    (goes.by granted (granted_with (slot * world.platform.slot_cycles) p [] loads granted) view (views_with p [] loads (site_part world number loads) view) t (λ place. nothing (slice_get loads place) (granted place)) (λ place part is. unopened (slice_get loads place) (opened (site_part world number loads place) (view place)) (view place)) holds, is)
+    (goes.by granted (granted_with (slot * world.platform.slot_cycles) p [] loads granted) view (views_with p [] loads (site_part world number loads) view) t (λ place. nothing (slice_get loads place) (granted place)) (λ place part is. unopened (slice_get loads place) (opened (site_part world number loads place) (view place)) (view place)) holds, is, λ place start begins. standing place start (sym (nothing (slice_get loads place) (granted place)) ∙ begins))
   where
     nothing : (load : Option LoadName) (old : Option ℕ) → cond (touches p [] load) (Some (slot * world.platform.slot_cycles)) old ≡ old
     nothing None old = refl
@@ -67,12 +67,12 @@ fold_in world all_loads loads all number at slot R site goes have p (grant ∷ g
     let slots = world.platform.partition_slots in
     let parts = site_part world number loads in
     let keyed = loads_keyed world all_loads loads all number site in
-    let Goal : TileState → Type 0 = λ s. R (granted_with cycle p (grant ∷ grants) loads granted) (views_with p (grant ∷ grants) loads parts view) s × IsTile number at loads slots s in
+    let Goal : TileState → Type 0 = λ s. R (granted_with cycle p (grant ∷ grants) loads granted) (views_with p (grant ∷ grants) loads parts view) s × IsTile number at loads slots s × AreStanding world all (slot + 1) loads (granted_with cycle p (grant ∷ grants) loads granted) in
     elim (cases_Bool (p grant)) [
       | inr fails ↦
           let rest = fold_in world all_loads loads all number at slot R site goes have p grants granted view t (rest_apart grant grants labelled) is (λ k g at_k passes. starts (suc k) g at_k passes) standing holds in
           let P : List Grant → Type 0 = λ gs. Goal (fold (after_start world) t gs) in
-          let now : Goal (fold (after_start world) t (filter p grants)) = (goes.by (granted_with cycle p grants loads granted) (granted_with cycle p (grant ∷ grants) loads granted) (views_with p grants loads parts view) (views_with p (grant ∷ grants) loads parts view) _ (λ place. sym (touches_less p grant grants (slice_get loads place) (Some cycle) (granted place) fails)) (λ place part is. sym (touches_less p grant grants (slice_get loads place) (opened (parts place) (view place)) (view place) fails)) rest.0, rest.1) in
+          let now : Goal (fold (after_start world) t (filter p grants)) = (goes.by (granted_with cycle p grants loads granted) (granted_with cycle p (grant ∷ grants) loads granted) (views_with p grants loads parts view) (views_with p (grant ∷ grants) loads parts view) _ (λ place. sym (touches_less p grant grants (slice_get loads place) (Some cycle) (granted place) fails)) (λ place part is. sym (touches_less p grant grants (slice_get loads place) (opened (parts place) (view place)) (view place) fails)) rest.0, rest.1, λ place start begins. rest.2 place start (touches_less p grant grants (slice_get loads place) (Some cycle) (granted place) fails ∙ begins)) in
           subst P (sym (filter_out p grant grants fails)) now
       | inl passes ↦
           let begin = starts zero grant refl passes in
@@ -101,7 +101,7 @@ fold_in world all_loads loads all number at slot R site goes have p (grant ∷ g
           ∙ touches_more p grant grants (slice_get loads place) (opened (parts place) (view place)) (view place) passes in
           let step : (s : TileState) → after_start world t grant ≡ s → R later after s → IsTile number at loads slots s → Goal (fold (after_start world) t (filter p (grant ∷ grants))) = λ s comes now its.
           let rest = fold_in world all_loads loads all number at slot R site goes have p grants later after s (rest_apart grant grants labelled) its still stand now in
-          let done : Goal (fold (after_start world) s (filter p grants)) = (goes.by (granted_with cycle p grants loads later) (granted_with cycle p (grant ∷ grants) loads granted) (views_with p grants loads parts after) (views_with p (grant ∷ grants) loads parts view) _ (λ place. sym (touches_more p grant grants (slice_get loads place) (Some cycle) (granted place) passes)) (λ place part is. sym (more place)) rest.0, rest.1) in
+          let done : Goal (fold (after_start world) s (filter p grants)) = (goes.by (granted_with cycle p grants loads later) (granted_with cycle p (grant ∷ grants) loads granted) (views_with p grants loads parts after) (views_with p (grant ∷ grants) loads parts view) _ (λ place. sym (touches_more p grant grants (slice_get loads place) (Some cycle) (granted place) passes)) (λ place part is. sym (more place)) rest.0, rest.1, λ place start begins. rest.2 place start (touches_more p grant grants (slice_get loads place) (Some cycle) (granted place) passes ∙ begins)) in
           let P : List Grant → Type 0 = λ gs. Goal (fold (after_start world) t gs) in
           let Q : TileState → Type 0 = λ s. Goal (fold (after_start world) s (filter p grants)) in
           subst P (sym (filter_in p grant grants passes)) (subst Q (sym comes) done) in

@@ -35,7 +35,8 @@ granted_from world grants slot tile place =
 pub record IsPlaced (slots : ℕ) (tile : TileState) (place : ℕ) (part : Part) : Type 0 where
   pub known : place_at tile (number_of part) ≡ Some place
   pub installed : IsInstalled tile.kernel (number_of part)
-  pub owns : (slot : ℕ) → slot < slots → has (number_of part) (owner_at tile.kernel slot) ≡ (bit_at part.slots slot == 1)
+  pub owns : (slot : ℕ) → slot < slots
+      → has (number_of part) (owner_at tile.kernel slot) ≡ (bit_at part.slots slot == 1)
 
 -- a number is that of the part of the load at a place, which is granted
 pub record IsNumberOf (parts : ℕ → Option Part) (granted : ℕ → Option ℕ) (place number : ℕ) : Type 0 where
@@ -48,7 +49,8 @@ pub record IsNumberOf (parts : ℕ → Option Part) (granted : ℕ → Option �
 -- Installed are exactly the loads at those places for which `granted` tells a cycle. `parts` tells the
 -- part of the load at each place.
 pub record AreInstalled (slots : ℕ) (parts : ℕ → Option Part) (granted : ℕ → Option ℕ) (tile : TileState) : Type 0 where
-  pub each : (place : ℕ) (part : Part) (start : ℕ) → parts place ≡ Some part → granted place ≡ Some start → IsPlaced slots tile place part
+  pub each : (place : ℕ) (part : Part) (start : ℕ) → parts place ≡ Some part → granted place ≡ Some start
+      → IsPlaced slots tile place part
   pub known : (number place : ℕ) → place_at tile number ≡ Some place → IsNumberOf parts granted place number
   pub owned : (slot number : ℕ) → owner_at tile.kernel slot ≡ Some number → IsSome (place_at tile number)
 

@@ -15,7 +15,8 @@ use Rattle.tile_core.specs.Cycle.{words_of}
 use Rattle.tile_core.specs.Fit.{AreInstalled, granted_from}
 
 -- an installed part before a cycle: its words, the bytes of its region, and its start by its number
-pub record IsHere (times : FrameTimes) (starts : ℕ → ℕ) (cycle : ℕ) (tile : TileState) (part : Part) (start : ℕ) (view : PartState) : Type 0 where
+pub record IsHere (times : FrameTimes) (starts : ℕ → ℕ) (cycle : ℕ) (tile : TileState)
+    (part : Part) (start : ℕ) (view : PartState) : Type 0 where
   pub words : context_of tile.kernel (offset_at times cycle) (number_of part) ≡ words_of view
   pub bytes : region_bytes tile.memory part.region ≡ view.bytes
   pub start_is : starts (number_of part) ≡ start
@@ -28,18 +29,26 @@ pub record IsLogged (tile : TileState) (place : ℕ) (log : Log) : Type 0 where
 -- A tile holds parts before a cycle. `parts` tells the part of the load at each place, `granted` the cycle
 -- from which on it is granted, where it is installed, `starts` the same by the parts' numbers, and `view`
 -- what each part is by itself, installed or not.
-pub record Holds (times : FrameTimes) (parts : ℕ → Option Part) (granted : ℕ → Option ℕ) (starts : ℕ → ℕ) (view : ℕ → PartState) (cycle : ℕ) (tile : TileState) : Type 0 where
+pub record Holds (times : FrameTimes) (parts : ℕ → Option Part) (granted : ℕ → Option ℕ)
+    (starts : ℕ → ℕ) (view : ℕ → PartState) (cycle : ℕ) (tile : TileState) : Type 0 where
   pub frame : tile.kernel.times ≡ times
   pub whole : IsWhole tile.kernel
   pub step : InStep tile.kernel (offset_at times cycle)
   pub turn : TurnOf tile.kernel starts cycle
   pub installed : AreInstalled times.slots parts granted tile
   pub inside : (place : ℕ) (part : Part) → parts place ≡ Some part → IsInside tile.memory part.region
-  pub here : (place : ℕ) (part : Part) (start : ℕ) → parts place ≡ Some part → granted place ≡ Some start → IsHere times starts cycle tile part start (view place)
+  pub here : (place : ℕ) (part : Part) (start : ℕ) → parts place ≡ Some part → granted place ≡ Some start
+      → IsHere times starts cycle tile part start (view place)
   pub logs : (place : ℕ) (part : Part) → parts place ≡ Some part → IsLogged tile place (view place).log
+
+-- the same of a tile of a world, at the beginning of its slot
+abbrev pub HoldsAt : World → (ℕ → Option ℕ) → (ℕ → ℕ) → (ℕ → PartState) → TileState → Type 0
+HoldsAt world granted starts view tile =
+    let cycle = tile.at * world.platform.slot_cycles in
+    Holds (frame_of world.platform) (load_part world tile) granted starts view cycle tile
 
 -- at the beginning of its slot a tile holds the parts of its loads, of which those are installed whose
 -- grants stand
 pub record HoldsGranted (world : World) (grants : List Grant) (view : ℕ → PartState) (tile : TileState) : Type 0 where
   pub starts : ℕ → ℕ
-  pub holds : Holds (frame_of world.platform) (load_part world tile) (granted_from world grants tile.at tile) starts view (tile.at * world.platform.slot_cycles) tile
+  pub holds : HoldsAt world (granted_from world grants tile.at tile) starts view tile

@@ -14,12 +14,17 @@ use Rattle.tile_core.specs.Fit.{IsMadeFor}
 use Rattle.tile_core.specs.Views.{views_slot}
 use Rattle.tile_core.specs.Holds.{HoldsGranted}
 
+-- each part of a tile's loads has an empty log
+abbrev pub AreEmpty : World → TileState → (ℕ → PartState) → Type 0
+AreEmpty world tile view =
+    (place : ℕ) (part : Part) → load_part world tile place ≡ Some part → (view place).log ≡ new_log part.trace
+
 -- Before its first slot a tile holds its parts, none of them installed and each with an empty log.
 abbrev pub HoldsFirst : Type 0
 HoldsFirst =
     (world : World) (loads : List LoadName) (grants : List Grant) (number : ℕ) (view : ℕ → PartState)
     → IsSoundWorld world loads → number < world.platform.tiles
-    → ((place : ℕ) (part : Part) → load_part world (fresh_tile world loads number) place ≡ Some part → (view place).log ≡ new_log part.trace)
+    → AreEmpty world (fresh_tile world loads number) view
     → HoldsGranted world grants view (fresh_tile world loads number)
 
 -- After its slot it holds them, each as it is by itself after that slot.

@@ -6,3 +6,4 @@ pub mod Fit
 pub mod Views
 pub mod Holds
 pub mod Law
+pub mod inner

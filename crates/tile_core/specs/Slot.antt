@@ -70,11 +70,17 @@ after_start world tile grant = installed_at world tile (load_place tile grant.la
 abbrev pub with_starts : World → List Grant → TileState → TileState
 with_starts world grants tile = fold (after_start world) tile (filter (begins_in tile.at) grants)
 
--- Third: the cycles of the slot, one by one.
+-- the tile once the grants of its slot have ended and begun
+abbrev pub with_grants : World → List Grant → TileState → TileState
+with_grants world grants tile = with_starts world grants (with_ends world grants tile)
+
+-- the tile after so many cycles, one by one
+abbrev pub cycled : World → ℕ → ℕ → TileState → TileState
+cycled world cycle n tile = after_steps (tile_cycle (load_part world tile) world.platform.costs) cycle n tile
+
+-- Third: the cycles of the slot.
 abbrev pub with_cycles : World → TileState → TileState
-with_cycles world tile =
-    let len = world.platform.slot_cycles in
-    after_steps (tile_cycle (load_part world tile) world.platform.costs) (tile.at * len) len tile
+with_cycles world tile = cycled world (tile.at * world.platform.slot_cycles) world.platform.slot_cycles tile
 
 -- what the tile puts on its outputs for the slot after: idle flits, since no slot table has an entry yet
 abbrev pub slot_outputs : List WordAndCredits
@@ -83,5 +89,4 @@ slot_outputs = replicate 7 idle
 -- the tile after its next slot
 unfoldable pub tile_slot : World → List Grant → TileState → TileState
 tile_slot world grants tile =
-    let cycled = with_cycles world (with_starts world grants (with_ends world grants tile)) in
-    record cycled { at = tile.at + 1 }
+    record (with_cycles world (with_grants world grants tile)) { at = tile.at + 1 }

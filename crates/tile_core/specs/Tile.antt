@@ -80,8 +80,12 @@ log_of tile label = option_and_then (slice_get tile.logs) (load_place tile label
 
 -- a part as it is with these words: registers, cycles left, the bytes of its region, its log
 abbrev pub state_with : TileState → ℕ → Part → Context → PartState
-state_with tile place part words =
-    record { regs = words.regs; left = words.left; bytes = region_bytes tile.memory part.region; log = log_at tile place }
+state_with tile place part words = record {
+  regs = words.regs;
+  left = words.left;
+  bytes = region_bytes tile.memory part.region;
+  log = log_at tile place;
+}
 
 -- the words of an installed part at the beginning of the tile's next slot, in the register file or in its
 -- frame

@@ -39,6 +39,11 @@ abbrev pub opening_view : Part → Log → PartState
 opening_view part log =
     record { regs = fresh_registers part.entry; left = 0; bytes = filled_bytes part.region.len part.image; log = log }
 
+-- a part after so many cycles, where its application is granted from cycle `start` on
+abbrev pub granted_cycles : World → ℕ → Part → ℕ → ℕ → PartState → PartState
+granted_cycles world start part cycle n view =
+    after_steps (λ c s. granted_step (frame_of world.platform) world.platform.costs c start part s) cycle n view
+
 -- A part after a slot: where its grant begins in the slot, it is as when its application is granted; and
 -- where the grant stands at the end of the slot, it has the slot's cycles.
 abbrev pub view_slot : World → ℕ → Option Grant → Option Part → PartState → PartState
@@ -47,8 +52,7 @@ view_slot world slot (Some grant) None view = view
 view_slot world slot (Some grant) (Some part) view =
     let len = world.platform.slot_cycles in
     let opened = if begins_in slot grant then opening_view part view.log else view in
-    let cycles = after_steps (λ cycle. granted_step (frame_of world.platform) world.platform.costs cycle (grant.start * len) part) in
-    if stands_at (slot + 1) grant then cycles (slot * len) len opened else view
+    if stands_at (slot + 1) grant then granted_cycles world (grant.start * len) part (slot * len) len opened else view
 
 -- the grant of the load at a place of a tile
 abbrev pub place_grant : List Grant → TileState → ℕ → Option Grant

@@ -1,7 +1,25 @@
-//! t
+//! A tile: its microkernel and memory, the applications that are installed on it, and one slot of all of
+//! them.
+//!
+//! `specs/Tile` says what a tile is between two slots and what it answers, `specs/Cycle` what it does in a
+//! cycle, `specs/Slot` in a slot (grants that end, grants that begin, and its cycles one by one),
+//! `specs/Lockstep` how all tiles go on together, and `specs/Fit` which grants are installed and what a
+//! tile needs for a slot. `specs/Views`, `specs/Holds` and `specs/Law` state the law: a tile holds each of
+//! its parts as that part is by itself. `specs/inner` has words of the code's own functions.
 #![tactic(auto)]
 
-ghost use Rattle.tile_core.specs.Law.{HoldsNext};
+/// The law.
+mod law;
+/// A tile and its links.
+mod station;
+/// A tile, slot by slot.
+mod tile;
 
-/// f
-pub fn f() -> u8 { 1 }
+/// Tiles followed by hand.
+#[cfg(test)]
+mod tests;
+
+
+pub use law::tile_holds;
+pub use station::Station;
+pub use tile::Tile;

@@ -147,3 +147,8 @@ next_none state session =
               ∙ ap (λ (o : Option Command). is_some (option_and_then (reply_at state session) o)) at in
           (λ none. le-leb (length commands) count past, λ used. next)
     ]
+
+-- the entry that a session's next command adds, by what was answered
+pub next_from : (state : ManagerState) (session : ℕ) (entry : Entry) (answer : Option Entry) → entry.session ≡ session
+    → answer ≡ next_at state session → answer ≡ Some entry → IsNextEntry state entry
+next_from state session entry answer same is some = ap (next_at state) same ∙ sym is ∙ some

@@ -34,7 +34,7 @@ use Rattle.vep_manager.proofs.Lists.{pairs_map, pairs_none, split_last, fewer}
 use Rattle.vep_manager.proofs.SetupLemmas.{script_of, numbered_next}
 use Rattle.vep_manager.proofs.Growth.{count_of-append, end_in-append, grants_of-append, loads_grow}
 use Rattle.vep_manager.proofs.Replied.{next_command, Opens, Closes, Tells, reply_tells}
-use Rattle.vep_manager.proofs.Standing.{Standing, counts, standing}
+use Rattle.vep_manager.proofs.Standing.{Standing, counts, standing, legal_more}
 
 -- the grants are no more than the loads
 pub few_grants : (state : ManagerState) (limit : ℕ) → Standing state limit
@@ -83,6 +83,12 @@ granted state limit stands = record {
   begin_early = stands.begin_early;
   end_early = stands.end_early;
 }
+
+-- what holds of a legal history of a sound setup holds with the next entry
+pub stands_after : (state : ManagerState) (entry : Entry) → IsSound state.setup → IsLegal state.setup state.history
+    → IsNextEntry state entry → Standing (grown state entry) LAST_CYCLE
+stands_after state entry sound legal next =
+    standing (grown state entry) LAST_CYCLE sound.cycles (legal_more state.setup state.history entry legal next)
 
 -- the grants of a legal history of a sound setup can all be kept
 pub legal_apart : (setup : Setup) → IsSound setup → (history : List Entry) → IsLegal setup history

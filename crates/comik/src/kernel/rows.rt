@@ -1,13 +1,13 @@
 //! What the microkernel does at the offsets of an instance: the latch at 0, the words saved at 0 to 32,
 //! the swap at 33, the words restored at 33 to 65, and nothing from 66 on.
 
-ghost use Rattle.std.specs.Prelude.{ℕ, ◌≡◌, ◌<◌, ◌≤◌, ◌+◌, ◌-◌, ◌==◌, if◌then◌else◌, IfSome};
-ghost use Rattle.soc_base.specs.Time.{offset_at};
+ghost use Rattle.std.specs.Prelude.{◌≡◌, ◌<◌, ◌≤◌, ◌+◌, ◌-◌, ◌==◌, if◌then◌else◌, IfSome};
 ghost use Rattle.soc_base.specs.Frame.{IsFrame};
 ghost use Rattle.comik.specs.Context.{IsContext};
 ghost use Rattle.comik.specs.Kernel.{IsBelow, frame_at};
-ghost use Rattle.comik.specs.Table.{saved, restored, latched, swapped, saved_words, restored_words, kernel_row, kernel_rows, kernel_cycle};
-ghost use Rattle.comik.specs.Switching.{HasWords, InStep, Keeps};
+ghost use Rattle.comik.specs.Table.{saved, restored, latched, swapped, saved_words, restored_words};
+ghost use Rattle.comik.specs.Table.{kernel_row, kernel_rows, kernel_cycle};
+ghost use Rattle.comik.specs.Switching.{HasWords, KeepsOver};
 
 use crate::kernel::Kernel;
 use soc_base::instance_of;
@@ -75,7 +75,7 @@ impl Kernel {
     }
 
     // Writes the words `first` to `end - 1` of the register file to the frame of the part that is held.
-    #[tactic(auto, using(crate::proofs::Still::words_saved, crate::proofs::Still::none_saved))]
+    #[tactic(auto, using(crate::proofs::Stretches::words_saved, crate::proofs::Stretches::none_saved))]
     fn save_words(&mut self, first: u8, end: u8)
         requires order { first ≤ end }
         requires within { end ≤ 33 }
@@ -87,7 +87,7 @@ impl Kernel {
     }
 
     // Reads the words `first` to `end - 1` of the register file from the frame of the part that is held.
-    #[tactic(auto, using(crate::proofs::Still::words_restored, crate::proofs::Still::none_restored))]
+    #[tactic(auto, using(crate::proofs::Stretches::words_restored, crate::proofs::Stretches::none_restored))]
     fn restore_words(&mut self, first: u8, end: u8)
         requires order { first ≤ end }
         requires within { end ≤ 33 }
@@ -171,7 +171,7 @@ impl Kernel {
     /// they were, and the kernel in step for the next cycle.
     pub fn cycle(&mut self, cycle: u64)
         ensures row { self.new ≡ kernel_cycle self.old cycle }
-        ensures keeps { InStep self.old (offset_at self.old.times cycle) → Keeps self.old (offset_at self.old.times cycle) self.new (offset_at self.old.times (cycle + 1)) }
+        ensures keeps { KeepsOver self.old cycle self.new }
     {
         self.words();
         self.advance(cycle);

@@ -4,9 +4,7 @@ use Rattle.soc_top.proofs.catalog.read_catalog.Given as goal
 
 abbrev pub invariant-loop-name : goal.invariant-loop-name
 invariant-loop-name g l =
-    (goal.iterator-loop-name).can_next l.name-iterator
-    × (goal.iterator-loop-name).is_finite l.name-iterator
-    × (g.F.Files.holds l.files ≡ g.F.Files.holds l.fn.files)
+    (g.F.Files.holds l.files ≡ g.F.Files.holds l.fn.files)
     × (g.F.Files.faults l.fn.files ≤ g.F.Files.faults l.files)
     × (catalog_names l.catalog.items ≡ l.yielded)
     × IsJudged (g.F.Files.holds l.fn.files) l.platform l.catalog.items

@@ -1,7 +1,8 @@
 use Rattle.std.proofs.Common.{◌≡◌, ◌+◌, ◌-◌, ◌==◌, cond, sym, ap, ◌∙◌, arith}
 use Rattle.comik.specs.Kernel.{KernelState}
 use Rattle.comik.specs.Table.{swapped, restored_words}
-use Rattle.comik.proofs.Still.{rest_still, rows_restored}
+use Rattle.comik.proofs.Still.{rest_still}
+use Rattle.comik.proofs.Stretches.{rows_restored}
 use Rattle.comik.proofs.kernel.Kernel.restore_rows.Goals as goal
 
 pub returns-then-count-eq0 : goal.returns-then-count-eq0

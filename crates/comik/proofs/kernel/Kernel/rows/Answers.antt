@@ -1,7 +1,7 @@
-use Rattle.std.proofs.Common.{◌≡◌, ◌+◌, ◌-◌, sym, ap, ◌∙◌, arith}
+use Rattle.std.proofs.Common.{◌+◌, sym, ap, ◌∙◌, arith}
 use Rattle.comik.specs.Kernel.{KernelState}
 use Rattle.comik.specs.Table.{kernel_rows}
-use Rattle.comik.proofs.Still.{rows_cut}
+use Rattle.comik.proofs.Stretches.{rows_cut}
 use Rattle.comik.proofs.kernel.Kernel.rows.Goals as goal
 
 pub returns : goal.returns

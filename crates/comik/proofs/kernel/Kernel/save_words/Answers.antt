@@ -1,7 +1,7 @@
-use Rattle.std.proofs.Common.{◌≡◌, ◌-◌, ◌<◌, ap, subst, arith, ◌∙◌}
+use Rattle.std.proofs.Common.{◌-◌, ◌<◌, ap, subst, arith, ◌∙◌}
 use Rattle.comik.specs.Kernel.{KernelState, IsBelow}
 use Rattle.comik.specs.Table.{saved_words}
-use Rattle.comik.proofs.Still.{frame_saved}
+use Rattle.comik.proofs.Stretches.{frame_saved}
 use Rattle.comik.proofs.kernel.Kernel.save_words.Goals as goal
 
 pub returns-in-Some : goal.returns-in-Some

@@ -1,0 +1,354 @@
+//! A tile with two loads, followed over its slots, with cycles that were counted by hand.
+
+ghost use Rattle.std.specs.Prelude.{◌≡◌, ◌≢◌, ◌*◌, ◌≤◌, [], ◌∷◌, length, Ok, IfOk, IfSome, IsSome};
+ghost use Rattle.std.specs.List.{list_any};
+ghost use Rattle.bundle_model.specs.Resources.{meets_of};
+ghost use Rattle.bundle_model.specs.Grants.{IsApart, bundle_at, grant_resources};
+ghost use Rattle.bundle_model.specs.World.{IsSoundCatalog, IsSoundWorld, AreOfLoads};
+ghost use Rattle.bundle_model.specs.WellFormed.{IsWellFormed};
+ghost use Rattle.soc_base.specs.declared.limits.TheConstants.{LAST_CYCLE};
+ghost use Rattle.tile_core.specs.Fit.{IsMadeFor, IsFit};
+
+use crate::tile::Tile;
+use bundle_model::{
+    Bundle, Grant, LoadName, Named, RawBundle, RawPart, Resource, Schedule, World, check, meets,
+    resources,
+};
+use platform_model::Platform;
+use soc_base::{Flit, Items, Label, Text};
+use std::alloc::Global;
+use std::process::Abort;
+use std::test::Fail;
+use trace_log::{Kind, PartEnd, TraceRow};
+
+const FIRST: LoadName = LoadName {
+    label: Label {
+        session: 1,
+        load: 1,
+    },
+    bundle: 0,
+};
+
+const SECOND: LoadName = LoadName {
+    label: Label {
+        session: 1,
+        load: 2,
+    },
+    bundle: 1,
+};
+
+// A bundle of one part that traces 7 and ends: its instructions take 1, 1, 4 and 1 cycles.
+fn bundle(alloc: Global, platform: &Platform, slot: i64, base: i64) -> Result<Bundle, Fail>
+    ensures { IfOk result (IsWellFormed platform.now) }
+{
+    let image = vec![in alloc;
+        0x0070_0293, // addi x5, x0, 7
+        0x8000_0337, // lui x6, 0x80000
+        0x0053_2023, // sw x5, 0(x6)
+        0x0000_0073, // ecall
+    ]?;
+    let part = RawPart {
+        tile: 0,
+        slots: Items::from_vec(vec![in alloc; slot]?),
+        base,
+        len: 64,
+        image: Some(Items::from_vec(image)),
+        entry: 0,
+        trace: 16,
+        kinds: Items::from_vec(vec![in alloc; Text::from_str(alloc, "word")?]?),
+        ports: Items::new(alloc),
+    };
+    let raw = RawBundle {
+        version: 1,
+        parts: Items::from_vec(vec![in alloc; part]?),
+        pairs: Items::new(alloc),
+    };
+    Ok(check(alloc, &raw, platform)?)
+}
+
+fn named(alloc: Global, name: &str, bundle: Bundle) -> Result<Named, Fail>
+    ensures { IfOk result (λ named. named.judged ≡ Ok bundle) }
+{
+    Ok(Named {
+        name: Text::from_str(alloc, name)?,
+        judged: Ok(bundle),
+    })
+}
+
+// The plain platform, whose two partition slots are served from cycles 72 and 200 on, and again 256
+// cycles later, and two bundles: one in partition slot 0 from byte 0 on, and one in partition slot 1
+// from byte 64 on.
+fn world(alloc: Global) -> Result<World, Fail>
+    ensures sound { IfOk result IsSoundCatalog }
+    ensures two { IfOk result (λ world. length world.catalog ≡ 2) }
+{
+    let platform = Platform::plain(alloc)?;
+    let first = named(alloc, "first", bundle(alloc, &platform, 0, 0)?)?;
+    let second = named(alloc, "second", bundle(alloc, &platform, 1, 64)?)?;
+    Ok(World {
+        platform,
+        catalog: Items::from_vec(vec![in alloc; first, second]?),
+    })
+}
+
+// What a grant holds.
+fn held<A: Abort>(
+    rt: &A,
+    alloc: Global,
+    world: &World,
+    grant: &Grant,
+) -> Result<Vec<Resource>, Fail>
+    requires { IsSoundCatalog world.now }
+    ensures known { IfOk result (λ held. IsSome (bundle_at world.now grant.now.bundle)) }
+    ensures held { IfOk result (λ held. held.items ≡ grant_resources world.now grant.now) }
+{
+    let Some(bundle) = world.bundle(grant.bundle) else {
+        panic!(rt; "no bundle");
+    };
+    Ok(resources(alloc, &world.platform, bundle)?)
+}
+
+fn meets_some(held: &[Resource], resource: &Resource) -> bool
+    ensures { result ≡ list_any (λ one. meets_of one resource.now) held.now }
+{
+    held.iter().any(|one| meets(one, resource))
+}
+
+fn do_meet(one: &[Resource], other: &[Resource]) -> bool
+    ensures { result ≡ list_any (λ resource. list_any (λ held. meets_of held resource) one.now) other.now }
+{
+    other.iter().any(|resource| meets_some(one, resource))
+}
+
+// A schedule of two grants that hold nothing together.
+fn schedule<A: Abort>(
+    rt: &A,
+    alloc: Global,
+    world: &World,
+    first: Grant,
+    second: Grant,
+    horizon: u64,
+) -> Result<Schedule, Fail>
+    requires sound { IsSoundCatalog world.now }
+    requires labels { first.label ≢ second.label }
+    requires begins { IfSome first.end (λ end. first.start ≤ end) }
+    requires follows { IfSome second.end (λ end. second.start ≤ end) }
+    ensures grants { IfOk result (λ schedule. schedule.grants.items ≡ first ∷ second ∷ []) }
+    ensures horizon { IfOk result (λ schedule. schedule.horizon ≡ horizon) }
+    ensures apart { IfOk result (λ schedule. IsApart world.now schedule.grants.items) }
+{
+    let one = held(rt, alloc, world, &first)?;
+    let other = held(rt, alloc, world, &second)?;
+    if do_meet(one.as_slice(), other.as_slice()) {
+        panic!(rt; "the grants meet");
+    }
+    let grants = vec![in alloc; first, second]?;
+    Ok(Schedule { grants, horizon })
+}
+
+// Does all slots of a tile up to the schedule's horizon.
+#[tactic(auto, using(crate::proofs::Made::slot_at))]
+fn run_slots(world: &World, loads: &[LoadName], schedule: &Schedule, tile: &mut Tile)
+    requires sound { IsSoundWorld world.now loads.now }
+    requires made { IsMadeFor world.now loads.now tile.old }
+    requires apart { IsApart world.now schedule.now.grants.items }
+    requires of_loads { AreOfLoads loads.now schedule.now.grants.items }
+    requires fits { IsFit world.now schedule.now.grants.items tile.old }
+    requires first { tile.old.at ≡ 0 }
+    requires bounded { schedule.now.horizon * world.now.platform.slot_cycles ≤ LAST_CYCLE }
+    ensures { IsMadeFor world.now loads.now tile.new }
+{
+    let idle = [Flit {
+        word: None,
+        credits: 0,
+    }; 7];
+    for _slot in 0..schedule.horizon {
+        let _outputs = tile.slot(world, schedule, &idle);
+    }
+}
+
+// Follows a tile with both loads from its beginning over so many slots.
+#[tactic(auto, using(crate::proofs::Fresh::fresh_made, crate::proofs::Fresh::fresh_fits, crate::proofs::Fresh::fresh_at))]
+fn followed<A: Abort>(
+    rt: &A,
+    alloc: Global,
+    world: &World,
+    first: Grant,
+    second: Grant,
+    slots: u64,
+) -> Result<Tile, Fail>
+    requires sound { IsSoundCatalog world.now }
+    requires two { length world.now.catalog ≡ 2 }
+    requires labels { (first.label ≡ record { session = 1; load = 1 }) × (second.label ≡ record { session = 1; load = 2 }) }
+    requires bundles { (first.bundle ≡ 0) × (second.bundle ≡ 1) }
+    requires begins { IfSome first.end (λ end. first.start ≤ end) }
+    requires follows { IfSome second.end (λ end. second.start ≤ end) }
+    requires bounded { slots * world.now.platform.slot_cycles ≤ LAST_CYCLE }
+    ensures { IfOk result (λ tile. length tile.memory ≡ world.now.platform.mem_bytes) }
+{
+    let loads = [FIRST, SECOND];
+    let schedule = schedule(rt, alloc, world, first, second, slots)?;
+    let mut tile = Tile::new(alloc, world, &loads, 0)?;
+    run_slots(world, &loads, &schedule, &mut tile);
+    assert_eq!(rt; tile.at(), slots);
+    Ok(tile)
+}
+
+// A grant of a load.
+fn granted(load: LoadName, start: u64, end: Option<u64>) -> Grant
+    ensures { result ≡ record { label = load.label; bundle = load.bundle; start = start; end = end } }
+{
+    Grant {
+        label: load.label,
+        bundle: load.bundle,
+        start,
+        end,
+    }
+}
+
+fn row(cycle: u64) -> TraceRow {
+    TraceRow {
+        cycle,
+        value: 7,
+        tile: 0,
+        kind: Kind::Word,
+    }
+}
+
+fn halted(cycle: u64) -> PartEnd {
+    PartEnd::Halt { code: 0, cycle }
+}
+
+// Checks the log of a load's part.
+fn check_log<A: Abort>(rt: &A, tile: &Tile, load: LoadName, rows: &[TraceRow], end: PartEnd) {
+    let Some(log) = tile.log(load.label) else {
+        panic!(rt; "no log");
+    };
+    assert_eq!(rt; log.rows(), rows);
+    assert_eq!(rt; log.end(), end);
+    assert_eq!(rt; log.cut(), 0);
+}
+
+// Checks the first words of the two regions.
+fn check_words<A: Abort>(rt: &A, world: &World, tile: &Tile, first: u32, second: u32)
+    requires { length tile.now.memory ≡ world.now.platform.mem_bytes }
+{
+    if world.platform.mem_bytes < 128 {
+        panic!(rt; "a small memory");
+    }
+    assert_eq!(rt; tile.memory().word(0), first);
+    assert_eq!(rt; tile.memory().word(16), second);
+    // The byte after an image of four words and the word before the next region are zero.
+    assert_eq!(rt; tile.memory().word(4), 0);
+    assert_eq!(rt; tile.memory().word(15), 0);
+}
+
+// The first word of the image.
+const WORD: u32 = 0x0070_0293;
+
+#[test]
+fn runs_each_load_in_its_slot(rt: HostRuntime) -> Result<(), Fail> {
+    let alloc = rt.alloc();
+    let world = world(alloc)?;
+    let first = granted(FIRST, 0, None);
+    let second = granted(SECOND, 1, None);
+    let tile = followed(&rt, alloc, &world, first, second, 0)?;
+    check_log(&rt, &tile, FIRST, &[], PartEnd::Live);
+    check_words(&rt, &world, &tile, 0, 0);
+    let tile = followed(&rt, alloc, &world, first, second, 1)?;
+    check_words(&rt, &world, &tile, WORD, 0);
+    let tile = followed(&rt, alloc, &world, first, second, 26)?;
+    check_log(&rt, &tile, FIRST, &[row(77)], halted(78));
+    check_log(&rt, &tile, SECOND, &[row(205)], halted(206));
+    check_words(&rt, &world, &tile, WORD, WORD);
+    let stranger = Label {
+        session: 2,
+        load: 1,
+    };
+    assert!(rt; tile.log(stranger).is_none());
+    Ok(())
+}
+
+// Checks who is installed with each number, and who is held.
+fn check_owners<A: Abort>(
+    rt: &A,
+    tile: &Tile,
+    first: Option<Label>,
+    second: Option<Label>,
+    held: Option<u8>,
+) {
+    assert_eq!(rt; tile.owner(0), first);
+    assert_eq!(rt; tile.owner(1), second);
+    assert_eq!(rt; tile.owner(2), None);
+    assert_eq!(rt; tile.kernel().held(), held);
+}
+
+#[test]
+fn holds_each_load_in_its_turn(rt: HostRuntime) -> Result<(), Fail> {
+    let alloc = rt.alloc();
+    let world = world(alloc)?;
+    let first = granted(FIRST, 0, Some(20));
+    let second = granted(SECOND, 1, None);
+    let (one, two) = (Some(FIRST.label), Some(SECOND.label));
+    // Slot 4 has the swap at cycle 33, and slot 20 that at cycle 161. A part that leaves is held no more.
+    let slots = [
+        (1, one, None, None),
+        (4, one, two, None),
+        (5, one, two, Some(0)),
+        (20, one, two, Some(0)),
+        (21, None, two, Some(1)),
+        (37, None, two, None),
+    ];
+    for (slot, first_owner, second_owner, held) in slots {
+        let tile = followed(&rt, alloc, &world, first, second, slot)?;
+        check_owners(&rt, &tile, first_owner, second_owner, held);
+    }
+    Ok(())
+}
+
+#[test]
+fn misses_the_instance_of_its_grant(rt: HostRuntime) -> Result<(), Fail> {
+    let alloc = rt.alloc();
+    let world = world(alloc)?;
+    let first = granted(FIRST, 1, None);
+    let second = granted(SECOND, 17, None);
+    let tile = followed(&rt, alloc, &world, first, second, 42)?;
+    check_log(&rt, &tile, FIRST, &[row(333)], halted(334));
+    check_log(&rt, &tile, SECOND, &[], PartEnd::Live);
+    check_words(&rt, &world, &tile, WORD, WORD);
+    Ok(())
+}
+
+#[test]
+fn misses_the_instance_that_it_is_granted_in(rt: HostRuntime) -> Result<(), Fail> {
+    let alloc = rt.alloc();
+    let world = world(alloc)?;
+    // Slot 37 begins at cycle 296, among the microkernel's cycles of the instance from 256 on.
+    let first = granted(FIRST, 37, None);
+    let second = granted(SECOND, 37, None);
+    let tile = followed(&rt, alloc, &world, first, second, 80)?;
+    check_log(&rt, &tile, FIRST, &[row(589)], halted(590));
+    check_log(&rt, &tile, SECOND, &[row(461)], halted(462));
+    Ok(())
+}
+
+#[test]
+fn leaves_at_the_end_of_its_grant(rt: HostRuntime) -> Result<(), Fail> {
+    let alloc = rt.alloc();
+    let world = world(alloc)?;
+    // Slot 9 begins at cycle 72, and slot 26 at cycle 208.
+    let first = granted(FIRST, 0, Some(9));
+    let second = granted(SECOND, 1, Some(26));
+    let tile = followed(&rt, alloc, &world, first, second, 42)?;
+    check_log(&rt, &tile, FIRST, &[], PartEnd::Live);
+    check_log(&rt, &tile, SECOND, &[row(205)], halted(206));
+    check_words(&rt, &world, &tile, WORD, WORD);
+    // A grant that ends where it begins is never installed.
+    let first = granted(FIRST, 3, Some(3));
+    let second = granted(SECOND, 1, Some(25));
+    let tile = followed(&rt, alloc, &world, first, second, 42)?;
+    check_log(&rt, &tile, FIRST, &[], PartEnd::Live);
+    check_log(&rt, &tile, SECOND, &[], PartEnd::Live);
+    check_words(&rt, &world, &tile, 0, WORD);
+    Ok(())
+}

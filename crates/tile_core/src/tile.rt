@@ -1,0 +1,205 @@
+//! A tile, slot by slot.
+
+ghost use Rattle.std.specs.Prelude.{◌≡◌, List, filter, map, is_some, IfOk};
+ghost use Rattle.std.specs.Option.{option_copied};
+ghost use Rattle.bundle_model.specs.World.{part_on};
+ghost use Rattle.tile_core.specs.Tile.{loads_on, fresh_log};
+
+/// The cycles of a slot.
+mod cycles;
+/// Grants that end and begin in a slot.
+mod grants;
+/// Finding loads and their parts.
+mod loads;
+
+use bundle_model::{LoadName, Schedule, World};
+use comik::Kernel;
+use soc_base::{Flit, Label, NoMemory};
+use std::alloc::Global;
+use std::marker::Model;
+use tile_memory::TileMemory;
+use trace_log::PartLog;
+
+/// A tile: its microkernel, its memory, and what it keeps of each load with a part on it.
+#[derive(Drop)]
+pub struct Tile {
+    number: u8,
+    slot: u64,
+    microkernel: Kernel,
+    bytes: TileMemory,
+    // The place of the load whose part is installed with each number.
+    numbers: Vec<Option<usize>>,
+    names: Vec<LoadName>,
+    part_logs: Vec<PartLog>,
+}
+
+impl Model for Tile {
+    ghost use Rattle.tile_core.specs.Tile.{TileState};
+
+    ghost Value = { TileState };
+
+    ghost view = { λ t. record { number = t.number; at = t.slot; kernel = t.microkernel; memory = t.bytes; places = t.numbers.items; loads = t.names.items; logs = t.part_logs.items } };
+}
+
+// The loads with a part on a tile.
+fn loads_on(
+    alloc: Global,
+    world: &World,
+    loads: &[LoadName],
+    tile: u8,
+) -> Result<Vec<LoadName>, NoMemory>
+    ensures { IfOk result (λ names. names.items ≡ loads_on world.now tile loads.now) }
+{
+    let mut names = Vec::with_capacity(alloc, loads.len())?;
+    for load in loads {
+        if world.part_on(tile, load.bundle).is_some() {
+            names.push_reserved(*load);
+        }
+    }
+    Ok(names)
+}
+
+// The log of a load's part on a tile, before the load is granted.
+fn fresh_log(
+    alloc: Global,
+    world: &World,
+    load: &LoadName,
+    tile: u8,
+) -> Result<PartLog, NoMemory>
+    ensures { IfOk result (λ log. log ≡ fresh_log world.now tile load.now) }
+{
+    let room = match world.part_on(tile, load.bundle) {
+        Some(part) => part.trace,
+        None => 0,
+    };
+    Ok(PartLog::new(alloc, room)?)
+}
+
+// The logs of loads, before any is granted.
+fn fresh_logs(
+    alloc: Global,
+    world: &World,
+    loads: &[LoadName],
+    tile: u8,
+) -> Result<Vec<PartLog>, NoMemory>
+    ensures { IfOk result (λ logs. logs.items ≡ map (fresh_log world.now tile) loads.now) }
+{
+    let mut logs = Vec::with_capacity(alloc, loads.len())?;
+    for load in loads {
+        logs.push_reserved(fresh_log(alloc, world, load, tile)?);
+    }
+    Ok(logs)
+}
+
+impl Tile {
+    ghost use Rattle.std.specs.Prelude.{◌+◌, ◌*◌, ◌^◌, ◌<◌, length};
+    ghost use Rattle.bundle_model.specs.declared.world.LoadName.{LoadName};
+    ghost use Rattle.bundle_model.specs.World.{IsSoundWorld};
+    ghost use Rattle.tile_core.specs.Tile.{fresh_tile, log_of, owner_of};
+    ghost use Rattle.tile_core.specs.Slot.{tile_slot, slot_outputs};
+    ghost use Rattle.tile_core.specs.Fit.{IsMadeFor, IsFit, IsUnderway, IsReady};
+
+    /// Makes a tile of a world, counted from 0, before its first slot, and takes all its memory: its own, a
+    /// frame for each partition slot, and a log for each load with a part on it. The loads are those of
+    /// the run. `NoMemory` where there is none for them.
+    #[tactic(auto, unfolding(crate::specs::Tile::fresh_tile))]
+    pub fn new(alloc: Global, world: &World, loads: &[LoadName], tile: u8) -> Result<Tile, NoMemory>
+        requires sound { IsSoundWorld world.now loads.now }
+        requires exists { tile < world.now.platform.tiles }
+        ensures { IfOk result (λ t. t ≡ fresh_tile world.now loads.now tile) }
+    {
+        let platform = &world.platform;
+        let microkernel = Kernel::new(alloc, platform.frame())?;
+        let bytes = TileMemory::new(alloc, platform.mem_bytes)?;
+        let numbers = Vec::from_elem(alloc, None, usize::from(platform.partition_slots))?;
+        let names = loads_on(alloc, world, loads, tile)?;
+        let part_logs = fresh_logs(alloc, world, names.as_slice(), tile)?;
+        Ok(Tile {
+            number: tile,
+            slot: 0,
+            microkernel,
+            bytes,
+            numbers,
+            names,
+            part_logs,
+        })
+    }
+
+    // Does what happens in the next slot.
+    #[tactic(auto, using(crate::proofs::Ready::settled_tile), unfolding(crate::specs::Slot::tile_slot))]
+    fn advance(&mut self, world: &World, schedule: &Schedule)
+        requires underway { IsUnderway world.now schedule.now self.old }
+        requires bounded { (self.old.at + 1) * world.now.platform.slot_cycles < 2 ^ 64 }
+        requires counted { self.old.at + 1 < 2 ^ 64 }
+        ensures { self.new ≡ tile_slot world.now schedule.now.grants.items self.old }
+    {
+        let next = self.slot + 1;
+        self.settle(world, schedule);
+        self.cycles(world);
+        self.slot = next;
+    }
+
+    /// Does the tile's next slot by a schedule that agrees with those of earlier slots and whose horizon
+    /// is above the slot. Takes what its links bring in the slot, by the router's inputs 0 to 6, and
+    /// answers what it puts on its outputs 0 to 6 for the next one: for now no input is read and every
+    /// output is idle. Takes no memory.
+    pub fn slot(&mut self, world: &World, schedule: &Schedule, _inputs: &[Flit; 7]) -> [Flit; 7]
+        requires { IsReady world.now schedule.now self.old }
+        ensures slot { self.new ≡ tile_slot world.now schedule.now.grants.items self.old }
+        ensures outputs { result ≡ slot_outputs }
+        ensures fits { IsFit world.now schedule.now.grants.items self.new }
+        ensures made { (loads : List LoadName) → IsMadeFor world.now loads self.old → IsMadeFor world.now loads self.new }
+    {
+        self.advance(world, schedule);
+        [Flit {
+            word: None,
+            credits: 0,
+        }; 7]
+    }
+
+    /// Answers the tile's next slot.
+    pub fn at(&self) -> u64
+        ensures { result ≡ self.now.at }
+    {
+        self.slot
+    }
+
+    /// Answers the log of a load's part on the tile. None exactly where the load has no part on it.
+    pub fn log(&self, label: Label) -> Option<&PartLog>
+        ensures { option_copied result ≡ log_of self.now label }
+    {
+        match self.load_place(label) {
+            Some(place) => self.part_logs.as_slice().get(place),
+            None => None,
+        }
+    }
+
+    /// Answers the load whose part is installed on the tile with a number, the least of its partition
+    /// slots, from 0 to one below the number of partition slots. None exactly where no part is.
+    pub fn owner(&self, part: u8) -> Option<Label>
+        ensures { result ≡ owner_of self.now part }
+    {
+        let place = match self.numbers.as_slice().get(usize::from(part)) {
+            Some(place) => (*place)?,
+            None => return None,
+        };
+        match self.names.as_slice().get(place) {
+            Some(load) => Some(load.label),
+            None => None,
+        }
+    }
+
+    /// Answers the tile's memory.
+    pub fn memory(&self) -> &TileMemory
+        ensures { result.now ≡ self.now.memory }
+    {
+        &self.bytes
+    }
+
+    /// Answers the tile's microkernel.
+    pub fn kernel(&self) -> &Kernel
+        ensures { result.now ≡ self.now.kernel }
+    {
+        &self.microkernel
+    }
+}
