@@ -21,10 +21,12 @@ same_part : (b : Bool) (p : AppPart) (next : PartState) → next ≡ p.state →
 same_part true p next e = ap (λ (state : PartState). record p { state = state }) e
 same_part false p next e = refl
 
-step_still : (platform : Platform) (start cycle : ℕ) (p : AppPart) → has_ended p.state.log.end ≡ true → part_step platform start cycle p ≡ p
+step_still : (platform : Platform) (start cycle : ℕ) (p : AppPart) → has_ended p.state.log.end ≡ true
+    → part_step platform start cycle p ≡ p
 step_still platform start cycle p ended =
     same_part (runs (frame_of platform) (slots_of p.part.slots) start cycle) p _ (ended_still platform.costs (place_of p.part) cycle p.state ended)
 
 -- so its cycles leave it
-pub ended_stays : (platform : Platform) (start from n : ℕ) (p : AppPart) → has_ended p.state.log.end ≡ true → after_steps (part_step platform start) from n p ≡ p
+pub ended_stays : (platform : Platform) (start from n : ℕ) (p : AppPart) → has_ended p.state.log.end ≡ true
+    → after_steps (part_step platform start) from n p ≡ p
 ended_stays platform start from n p ended = steps_still (part_step platform start) from n p (λ cycle. step_still platform start cycle p ended)

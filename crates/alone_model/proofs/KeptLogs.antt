@@ -21,7 +21,9 @@ either : {X : Type 0} (P : X → Type 0) (b : Bool) (x y : X) → P x → P y �
 either P true x y p q = p
 either P false x y p q = q
 
-logged_when : (trace : ℕ) (row : TraceRow) (log : Log) (b : Bool) → nat_lt (length log.rows) log.room ≡ b → LogFits trace log → LogFits trace (cond b (record log { rows = log.rows ++ row ∷ [] }) (record log { cut = min (log.cut + 1) (2 ^ 64 - 1) }))
+logged_when : (trace : ℕ) (row : TraceRow) (log : Log) (b : Bool) → nat_lt (length log.rows) log.room ≡ b
+    → LogFits trace log
+    → LogFits trace (cond b (record log { rows = log.rows ++ row ∷ [] }) (record log { cut = min (log.cut + 1) (2 ^ 64 - 1) }))
 logged_when trace row log true e fits =
     let inside : length log.rows < log.room = grind arith in
     record { room = fits.room; few = omega (arith, length-append log.rows (row ∷ []), inside, fits.room) }
@@ -46,11 +48,13 @@ PartFits p = LogFits p.part.trace p.state.log
 pub opening_fits : (parts : List Part) → All PartFits (map opening_part parts)
 opening_fits parts = All-map PartFits opening_part parts (λ k d inside. record { room = refl; few = omega arith })
 
-step_fits : (platform : Platform) (start cycle : ℕ) (p : AppPart) → PartFits p → PartFits (part_step platform start cycle p)
+step_fits : (platform : Platform) (start cycle : ℕ) (p : AppPart) → PartFits p
+    → PartFits (part_step platform start cycle p)
 step_fits platform start cycle p fits =
     either PartFits (runs (frame_of platform) (slots_of p.part.slots) start cycle) _ p (cycle_keeps (λ bytes log. LogFits p.part.trace log) (log_kept p.part.trace) platform.costs (place_of p.part) cycle p.state fits) fits
 
-pub steps_fit : (platform : Platform) (start cycle : ℕ) (parts : List AppPart) → All PartFits parts → All PartFits (map (part_step platform start cycle) parts)
+pub steps_fit : (platform : Platform) (start cycle : ℕ) (parts : List AppPart) → All PartFits parts
+    → All PartFits (map (part_step platform start cycle) parts)
 steps_fit platform start cycle parts fits =
     All-map PartFits (part_step platform start cycle) parts (All-weaker PartFits (λ p. PartFits (part_step platform start cycle p)) (step_fits platform start cycle) parts fits)
 
@@ -58,7 +62,8 @@ step_part : (platform : Platform) (start cycle : ℕ) (p : AppPart) → (part_st
 step_part platform start cycle p =
     either (λ q. q.part ≡ p.part) (runs (frame_of platform) (slots_of p.part.slots) start cycle) _ p refl refl
 
-steps_parts : (platform : Platform) (start cycle : ℕ) (parts : List AppPart) → map (λ p. p.part) (map (part_step platform start cycle) parts) ≡ map (λ p. p.part) parts
+steps_parts : (platform : Platform) (start cycle : ℕ) (parts : List AppPart) → map (λ p. p.part)
+    (map (part_step platform start cycle) parts) ≡ map (λ p. p.part) parts
 steps_parts platform start cycle [] = refl
 steps_parts platform start cycle (p ∷ parts) = ap₂ (λ (x : Part) (xs : List Part). x ∷ xs) (step_part platform start cycle p) (steps_parts platform start cycle parts)
 
@@ -71,7 +76,8 @@ record Keeps (bundle : Bundle) (app : AppState) : Type 0 where
   pub parts : map (λ p. p.part) app.parts ≡ bundle.parts
   pub fit : All PartFits app.parts
 
-keeps : (platform : Platform) (start from n : ℕ) (bundle : Bundle) (app : AppState) → Keeps bundle app → Keeps bundle (after_steps (app_cycle platform start) from n app)
+keeps : (platform : Platform) (start from n : ℕ) (bundle : Bundle) (app : AppState) → Keeps bundle app
+    → Keeps bundle (after_steps (app_cycle platform start) from n app)
 unfolding after_steps
 keeps platform start from zero bundle app kept = kept
 keeps platform start from (suc n) bundle app kept =
@@ -85,10 +91,12 @@ kept_at platform bundle start end =
     keeps platform _ _ _ bundle (opening bundle) (record { parts = opening_parts bundle.parts; fit = opening_fits bundle.parts })
 
 -- an application alone has the parts of its bundle
-pub alone_parts : (platform : Platform) (bundle : Bundle) (start end : ℕ) → map (λ p. p.part) (alone_at platform bundle start end).parts ≡ bundle.parts
+pub alone_parts : (platform : Platform) (bundle : Bundle) (start end : ℕ) → map (λ p. p.part)
+    (alone_at platform bundle start end).parts ≡ bundle.parts
 alone_parts platform bundle start end = (kept_at platform bundle start end).parts
 
 -- each of which has at most as many rows as its trace keeps
-pub alone_fits : (platform : Platform) (bundle : Bundle) (start end : ℕ) → All (λ p. length p.state.log.rows ≤ p.part.trace) (alone_at platform bundle start end).parts
+pub alone_fits : (platform : Platform) (bundle : Bundle) (start end : ℕ)
+    → All (λ p. length p.state.log.rows ≤ p.part.trace) (alone_at platform bundle start end).parts
 alone_fits platform bundle start end =
     All-weaker PartFits (λ p. length p.state.log.rows ≤ p.part.trace) (λ p fits. fits.few) (alone_at platform bundle start end).parts (kept_at platform bundle start end).fit

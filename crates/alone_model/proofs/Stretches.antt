@@ -13,20 +13,25 @@ use Rattle.soc_base.proofs.Laws.{steps_split}
 use Rattle.platform_model.specs.declared.platform.Platform.{Platform}
 use Rattle.platform_model.specs.Platform.{frame_of}
 use Rattle.part_model.specs.Part.{PartState, part_cycle}
-use Rattle.alone_model.specs.App.{AppPart, AppState, place_of, part_ran, part_step, app_cycle}
+use Rattle.alone_model.specs.App.{AppPart, AppState, place_of, part_step, app_cycle}
+use Rattle.alone_model.specs.inner.Stretch.{part_ran}
 
 -- whether a part runs in a cycle, where its application was granted from cycle `start` on
 abbrev pub runs_at : Platform → ℕ → AppPart → ℕ → Bool
 runs_at platform start p cycle = runs (frame_of platform) (slots_of p.part.slots) start cycle
 
-idle_step : (platform : Platform) (start cycle : ℕ) (p : AppPart) → runs_at platform start p cycle ≡ false → part_step platform start cycle p ≡ p
+idle_step : (platform : Platform) (start cycle : ℕ) (p : AppPart) → runs_at platform start p cycle ≡ false
+    → part_step platform start cycle p ≡ p
 idle_step platform start cycle p idle = ap (λ (b : Bool). cond b (record p { state = part_cycle platform.costs (place_of p.part) cycle p.state }) p) idle
 
-run_step : (platform : Platform) (start cycle : ℕ) (p : AppPart) → runs_at platform start p cycle ≡ true → part_step platform start cycle p ≡ record p { state = part_cycle platform.costs (place_of p.part) cycle p.state }
+run_step : (platform : Platform) (start cycle : ℕ) (p : AppPart) → runs_at platform start p cycle ≡ true
+    → part_step platform start cycle p ≡ record p { state = part_cycle platform.costs (place_of p.part) cycle p.state }
 run_step platform start cycle p run = ap (λ (b : Bool). cond b (record p { state = part_cycle platform.costs (place_of p.part) cycle p.state }) p) run
 
 -- a stretch in which a part doesn't run leaves it
-pub idle_steps : (platform : Platform) (start from n : ℕ) (p : AppPart) → ((k : ℕ) → from ≤ k → k < from + n → runs_at platform start p k ≡ false) → after_steps (part_step platform start) from n p ≡ p
+pub idle_steps : (platform : Platform) (start from n : ℕ) (p : AppPart)
+    → ((k : ℕ) → from ≤ k → k < from + n → runs_at platform start p k ≡ false)
+    → after_steps (part_step platform start) from n p ≡ p
 unfolding after_steps
 idle_steps platform start from zero p idle = refl
 idle_steps platform start from (suc n) p idle =
@@ -34,7 +39,9 @@ idle_steps platform start from (suc n) p idle =
     ∙ idle_step platform start (from + n) p (idle (from + n) (omega arith) (omega arith))
 
 -- a stretch in which it runs gives it a part cycle in each
-pub run_steps : (platform : Platform) (start from n : ℕ) (p : AppPart) → ((k : ℕ) → from ≤ k → k < from + n → runs_at platform start p k ≡ true) → after_steps (part_step platform start) from n p ≡ part_ran platform.costs from n p
+pub run_steps : (platform : Platform) (start from n : ℕ) (p : AppPart)
+    → ((k : ℕ) → from ≤ k → k < from + n → runs_at platform start p k ≡ true)
+    → after_steps (part_step platform start) from n p ≡ part_ran platform.costs from n p
 unfolding after_steps
 run_steps platform start from zero p run = refl
 run_steps platform start from (suc n) p run =
@@ -42,7 +49,8 @@ run_steps platform start from (suc n) p run =
     ∙ run_step platform start (from + n) (part_ran platform.costs from n p) (run (from + n) (omega arith) (omega arith))
 
 -- the instance and the offset of a cycle that lies in an instance
-in_instance : (f : FrameTimes) (i k : ℕ) → i * instance_cycles f ≤ k → k < i * instance_cycles f + instance_cycles f → (instance_at f k ≡ i) × (offset_at f k ≡ k - i * instance_cycles f)
+in_instance : (f : FrameTimes) (i k : ℕ) → i * instance_cycles f ≤ k → k < i * instance_cycles f + instance_cycles f
+    → (instance_at f k ≡ i) × (offset_at f k ≡ k - i * instance_cycles f)
 in_instance f i k low high =
     let len = instance_cycles f in
     let is : i * len + (k - i * len) ≡ k = omega arith in
@@ -50,7 +58,8 @@ in_instance f i k low high =
     (instance, mod-eq-sub-div-mul k len ∙ ap (λ (n : ℕ). k - n * len) instance)
 
 -- in one instance a part runs in all cycles past the microkernel's or in none
-same_runs : (f : FrameTimes) (slots : List ℕ) (start a b : ℕ) → instance_at f a ≡ instance_at f b → f.kernel ≤ offset_at f a → f.kernel ≤ offset_at f b → runs f slots start a ≡ runs f slots start b
+same_runs : (f : FrameTimes) (slots : List ℕ) (start a b : ℕ) → instance_at f a ≡ instance_at f b
+    → f.kernel ≤ offset_at f a → f.kernel ≤ offset_at f b → runs f slots start a ≡ runs f slots start b
 same_runs f slots start a b same past_a past_b =
     let past : nat_le f.kernel (offset_at f a) ≡ nat_le f.kernel (offset_at f b) = grind (arith, nat_tests) in
     ap₂ (λ (late : Bool) (i : ℕ). late && is_among (i % f.slots) slots && nat_le start (i * instance_cycles f)) past same
@@ -72,36 +81,41 @@ begins_at : (f : FrameTimes) (from : ℕ) → from - offset_at f from ≡ instan
 begins_at f from = omega (arith, mod-eq-sub-div-mul from (instance_cycles f), div-mul-le_self from (instance_cycles f))
 
 -- where such cycles lie
-lies : (f : FrameTimes) (from first to k : ℕ) → InInstance f from first to → from ≤ k → k < to → (instance_at f k ≡ instance_at f from) × (offset_at f k ≡ k - (from - offset_at f from))
+lies : (f : FrameTimes) (from first to k : ℕ) → InInstance f from first to → from ≤ k → k < to
+    → (instance_at f k ≡ instance_at f from) × (offset_at f k ≡ k - (from - offset_at f from))
 lies f from first to k here low high =
     let begin = begins_at f from in
     let place = in_instance f (instance_at f from) k (omega (arith, begin, here.within)) (omega (arith, begin, here.within)) in
     (place.0, place.1 ∙ ap (λ (n : ℕ). k - n) (sym begin))
 
 -- where the part runs in none of them
-pub idle_instance : (platform : Platform) (start from first to : ℕ) (p : AppPart) → InInstance (frame_of platform) from first to → (first < to → runs_at platform start p first ≡ false) → after_steps (part_step platform start) from (to - from) p ≡ p
+pub idle_instance : (platform : Platform) (start from first to : ℕ) (p : AppPart)
+    → InInstance (frame_of platform) from first to → (first < to → runs_at platform start p first ≡ false)
+    → after_steps (part_step platform start) from (to - from) p ≡ p
 idle_instance platform start from first to p here idle =
     let f = frame_of platform in
     idle_steps platform start from (to - from) p (λ k low high.
-      let place = lies f from first to k here low (omega (arith, here.ordered)) in
-      elim (cases_lt k first) [
-        | inl before ↦ no_runs f (slots_of p.part.slots) start k (omega (arith, place.1, here.is))
-        | inr past ↦
-            let there = lies f from first to first here (omega (arith, here.is)) (omega (arith, here.ordered)) in
-            same_runs f (slots_of p.part.slots) start k first (place.0 ∙ sym there.0) (omega (arith, place.1, here.is)) (omega (arith, there.1, here.is)) ∙ idle (omega (arith, here.ordered))
-      ])
+    let place = lies f from first to k here low (omega (arith, here.ordered)) in
+    elim (cases_lt k first) [
+      | inl before ↦ no_runs f (slots_of p.part.slots) start k (omega (arith, place.1, here.is))
+      | inr past ↦
+          let there = lies f from first to first here (omega (arith, here.is)) (omega (arith, here.ordered)) in
+          same_runs f (slots_of p.part.slots) start k first (place.0 ∙ sym there.0) (omega (arith, place.1, here.is)) (omega (arith, there.1, here.is)) ∙ idle (omega (arith, here.ordered))
+    ])
 
 -- where it runs in the first past the microkernel's
-pub run_instance : (platform : Platform) (start from first to : ℕ) (p : AppPart) → InInstance (frame_of platform) from first to → first < to → runs_at platform start p first ≡ true → after_steps (part_step platform start) from (to - from) p ≡ part_ran platform.costs first (to - first) p
+pub run_instance : (platform : Platform) (start from first to : ℕ) (p : AppPart)
+    → InInstance (frame_of platform) from first to → first < to → runs_at platform start p first ≡ true
+    → after_steps (part_step platform start) from (to - from) p ≡ part_ran platform.costs first (to - first) p
 run_instance platform start from first to p here some run =
     let f = frame_of platform in
     let there = lies f from first to first here (omega (arith, here.is)) some in
     let idle = idle_steps platform start from (first - from) p (λ k low high.
-      let place = lies f from first to k here low (omega (arith, some, here.is)) in
-      no_runs f (slots_of p.part.slots) start k (omega (arith, place.1, here.is))) in
+    let place = lies f from first to k here low (omega (arith, some, here.is)) in
+    no_runs f (slots_of p.part.slots) start k (omega (arith, place.1, here.is))) in
     let runs_on = run_steps platform start first (to - first) p (λ k low high.
-      let place = lies f from first to k here (omega (arith, here.is)) (omega arith) in
-      same_runs f (slots_of p.part.slots) start k first (place.0 ∙ sym there.0) (omega (arith, place.1, here.is)) (omega (arith, there.1, here.is)) ∙ run) in
+    let place = lies f from first to k here (omega (arith, here.is)) (omega arith) in
+    same_runs f (slots_of p.part.slots) start k first (place.0 ∙ sym there.0) (omega (arith, place.1, here.is)) (omega (arith, there.1, here.is)) ∙ run) in
     let count : to - from ≡ (first - from) + (to - first) = omega (arith, some, here.is) in
     let at : from + (first - from) ≡ first = omega (arith, here.is) in
     let step = part_step platform start in
@@ -115,7 +129,8 @@ map_twice g h [] = refl
 map_twice g h (x ∷ xs) = ap (λ ys. g (h x) ∷ ys) (map_twice g h xs)
 
 -- the parts of an application go through cycles each by itself
-pub parts_steps : (platform : Platform) (start from n : ℕ) (app : AppState) → after_steps (app_cycle platform start) from n app ≡ record app { parts = map (after_steps (part_step platform start) from n) app.parts }
+pub parts_steps : (platform : Platform) (start from n : ℕ) (app : AppState)
+    → after_steps (app_cycle platform start) from n app ≡ record app { parts = map (after_steps (part_step platform start) from n) app.parts }
 unfolding after_steps
 parts_steps platform start from zero app = ap (λ (parts : List AppPart). record app { parts = parts }) (sym (map-id app.parts))
 parts_steps platform start from (suc n) app =
@@ -123,7 +138,9 @@ parts_steps platform start from (suc n) app =
     ∙ ap (λ (parts : List AppPart). record app { parts = parts }) (map_twice (part_step platform start (from + n)) (after_steps (part_step platform start) from n) app.parts)
 
 -- a state goes on from one number to another, and then to a third
-pub steps_join : {S : Type 0} (step : ℕ → S → S) (from at to : ℕ) (old now new : S) → from ≤ at → at ≤ to → now ≡ after_steps step from (at - from) old → new ≡ after_steps step at (to - at) now → new ≡ after_steps step from (to - from) old
+pub steps_join : {S : Type 0} (step : ℕ → S → S) (from at to : ℕ) (old now new : S) → from ≤ at → at ≤ to
+    → now ≡ after_steps step from (at - from) old → new ≡ after_steps step at (to - at) now
+    → new ≡ after_steps step from (to - from) old
 steps_join step from at to old now new low high before after =
     let count : to - from ≡ (at - from) + (to - at) = omega arith in
     let here : from + (at - from) ≡ at = omega arith in

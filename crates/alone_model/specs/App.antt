@@ -3,7 +3,6 @@ use Rattle.std.specs.Prelude.{ℕ, ◌*◌, ◌-◌, List, map, if◌then◌else
 use Rattle.soc_base.specs.Time.{runs}
 use Rattle.soc_base.specs.Steps.{after_steps}
 use Rattle.platform_model.specs.declared.platform.Platform.{Platform}
-use Rattle.platform_model.specs.declared.costs.Costs.{Costs}
 use Rattle.platform_model.specs.Platform.{frame_of}
 use Rattle.soc_base.specs.declared.region.Region.{Region}
 use Rattle.bundle_model.specs.declared.bundle.Part.{Part}
@@ -25,6 +24,7 @@ pub record AppPart : Type 0 where
 pub record AppState : Type 0 where
   pub parts : List AppPart
 
+-- what stays of a part while it runs
 abbrev pub place_of : Part → Place
 place_of part = record { tile = part.tile; kinds = part.kinds }
 
@@ -37,15 +37,17 @@ own_region part = record { base = 0; len = part.region.len }
 abbrev pub opening_part : Part → AppPart
 opening_part part = record {
   part = part;
-  state = record { regs = fresh_registers part.entry; left = 0; bytes = filled_bytes part.region.len part.image; log = new_log part.trace };
+  state = record {
+    regs = fresh_registers part.entry;
+    left = 0;
+    bytes = filled_bytes part.region.len part.image;
+    log = new_log part.trace;
+  };
 }
 
+-- an application when it is granted
 abbrev pub opening : Bundle → AppState
 opening bundle = record { parts = map opening_part bundle.parts }
-
--- a part after `n` cycles in each of which it runs
-abbrev pub part_ran : Costs → ℕ → ℕ → AppPart → AppPart
-part_ran costs from n p = record p { state = after_steps (part_cycle costs (place_of p.part)) from n p.state }
 
 -- a part after a cycle of an application that was granted from cycle `start` on
 abbrev pub part_step : Platform → ℕ → ℕ → AppPart → AppPart

@@ -2,7 +2,8 @@
 
 ghost use Rattle.std.specs.Prelude.{◌≡◌, ◌-◌, ◌≤◌, map, IfOk};
 ghost use Rattle.bundle_model.specs.WellFormed.{IsWellFormed};
-ghost use Rattle.alone_model.specs.App.{opening_part, part_step};
+ghost use Rattle.alone_model.specs.App.{opening_part};
+ghost use Rattle.alone_model.specs.inner.Stretch.{part_steps};
 ghost use Rattle.soc_base.specs.Steps.{after_steps};
 
 use crate::part::RunningPart;
@@ -30,7 +31,7 @@ impl<'b> Model for Application<'b> {
 fn run_each(parts: &mut [RunningPart<'_>], platform: &Platform, from: u64, to: u64)
     requires ordered { from ≤ to }
     requires bounded { to ≤ LAST_CYCLE }
-    ensures { parts.new ≡ map (after_steps (part_step platform.now from) from (to - from)) parts.old }
+    ensures { parts.new ≡ map (part_steps platform.now from from (to - from)) parts.old }
 {
     for part in parts.iter_mut() {
         part.run(platform, from, from, to);
@@ -81,7 +82,7 @@ impl<'b> Application<'b> {
     fn run_parts(&mut self, platform: &Platform, from: u64, to: u64)
         requires ordered { from ≤ to }
         requires bounded { to ≤ LAST_CYCLE }
-        ensures { self.new ≡ record { parts = map (after_steps (part_step platform.now from) from (to - from)) self.old.parts } }
+        ensures { self.new ≡ record { parts = map (part_steps platform.now from from (to - from)) self.old.parts } }
     {
         run_each(self.parts.as_mut_slice(), platform, from, to);
     }

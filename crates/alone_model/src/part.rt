@@ -1,6 +1,7 @@
 //! One part with registers and a memory of its own.
 
 ghost use Rattle.std.specs.Prelude.{◌≡◌, ◌+◌, ◌-◌, ◌*◌, ◌%◌, ◌^◌, ◌<◌, ◌≤◌, length, IfOk};
+ghost use Rattle.soc_base.specs.declared.limits.TheConstants.{MOST_MEMORY};
 ghost use Rattle.soc_base.specs.Time.{offset_at};
 ghost use Rattle.platform_model.specs.Platform.{frame_of};
 ghost use Rattle.trace_log.specs.Log.{has_ended};
@@ -11,7 +12,7 @@ use bundle_model::Part;
 use part_model::Place;
 use platform_model::{Costs, Platform};
 use rv_core::Regs;
-use soc_base::{Frame, LAST_CYCLE, NoMemory, Region, instance_of, runs};
+use soc_base::{LAST_CYCLE, NoMemory, Region, instance_of, runs};
 use std::alloc::Global;
 use std::marker::Model;
 use tile_memory::TileMemory;
@@ -34,20 +35,12 @@ impl<'b> Model for RunningPart<'b> {
 
     ghost Value = { AppPart };
 
-    ghost view = { λ p. record { part = p.part.now; state = record { regs = p.regs; left = p.left; bytes = region_bytes p.memory (own_region p.part.now); log = p.log } } };
+    ghost view = { λ p. record {
+      part = p.part.now;
+      state = record { regs = p.regs; left = p.left; bytes = region_bytes p.memory (own_region p.part.now); log = p.log };
+    } };
 
     ghost invariant = { λ p. IsInside p.memory (own_region p.part.now) };
-}
-
-// The frame by which partitions share a core of the platform.
-fn frame(platform: &Platform) -> Frame
-    ensures { result ≡ frame_of platform.now }
-{
-    Frame {
-        kernel: platform.kernel_cycles,
-        partition: platform.partition_cycles,
-        slots: platform.partition_slots,
-    }
 }
 
 // The first of the partition's cycles in the instance of a cycle, and the cycle after the last.
@@ -57,7 +50,7 @@ fn partition_cycles(platform: &Platform, cycle: u64) -> (u64, u64)
     ensures past { result.1 ≡ result.0 + platform.now.partition_cycles }
     ensures later { cycle < result.1 }
 {
-    let (_, offset) = instance_of(&frame(platform), cycle);
+    let (_, offset) = instance_of(&platform.frame(), cycle);
     let first = cycle - offset + u64::from(platform.kernel_cycles);
     (first, first + u64::from(platform.partition_cycles))
 }
@@ -76,10 +69,11 @@ fn region_of(part: &Part) -> Region
 #[tactic(auto, using(crate::proofs::Opening::filled_inside, crate::proofs::Opening::filled_region))]
 fn filled_memory(alloc: Global, part: &Part) -> Result<TileMemory, NoMemory>
     requires rows { part.now.region.len % 16 ≡ 0 }
-    requires most { part.now.region.len ≤ 1048576 }
+    requires most { part.now.region.len ≤ MOST_MEMORY }
     requires holds { 4 * length part.now.image ≤ part.now.region.len }
     ensures inside { IfOk result (λ memory. IsInside memory (own_region part.now)) }
-    ensures bytes { IfOk result (λ memory. region_bytes memory (own_region part.now) ≡ filled_bytes part.now.region.len part.now.image) }
+    ensures bytes { let filled = filled_bytes part.now.region.len part.now.image in
+        IfOk result (λ memory. region_bytes memory (own_region part.now) ≡ filled) }
 {
     let mut memory = TileMemory::new(alloc, part.region.len)?;
     memory.fill(region_of(part), part.image.as_slice());
@@ -88,8 +82,8 @@ fn filled_memory(alloc: Global, part: &Part) -> Result<TileMemory, NoMemory>
 
 impl<'b> RunningPart<'b> {
     ghost use Rattle.bundle_model.specs.WellFormed.{IsWellFormedPart};
-    ghost use Rattle.soc_base.specs.Steps.{after_steps};
-    ghost use Rattle.alone_model.specs.App.{opening_part, part_ran, part_step};
+    ghost use Rattle.alone_model.specs.App.{opening_part};
+    ghost use Rattle.alone_model.specs.inner.Stretch.{part_ran, part_steps};
 
     /// Makes a part as it is when its application is granted.
     pub fn new(
@@ -138,12 +132,12 @@ impl<'b> RunningPart<'b> {
         requires bounded { to ≤ LAST_CYCLE }
         ensures later { from < result }
         ensures within { result ≤ to }
-        ensures cycles { self.new ≡ after_steps (part_step platform.now start) from (result - from) self.old }
+        ensures cycles { self.new ≡ part_steps platform.now start from (result - from) self.old }
     {
         let (begin, past) = partition_cycles(platform, from);
         let first = from.max(begin);
         let end = to.min(past);
-        if first < end && runs(&frame(platform), self.part.slots, start, first) {
+        if first < end && runs(&platform.frame(), self.part.slots, start, first) {
             self.run_all(&platform.costs, first, end - first);
         }
         end
@@ -154,7 +148,7 @@ impl<'b> RunningPart<'b> {
     pub fn run(&mut self, platform: &Platform, start: u64, from: u64, to: u64)
         requires ordered { from ≤ to }
         requires bounded { to ≤ LAST_CYCLE }
-        ensures { self.new ≡ after_steps (part_step platform.now start) from (to - from) self.old }
+        ensures { self.new ≡ part_steps platform.now start from (to - from) self.old }
     {
         let mut at = from;
         while at < to {

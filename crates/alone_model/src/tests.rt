@@ -1,46 +1,16 @@
-//! A small program followed alone, with cycles that were counted by hand.
+//! A small program followed alone, with cycles that were counted by hand. The plain platform serves its two
+//! partition slots from cycles 72 and 200 on, and again 256 cycles later.
 
 ghost use Rattle.std.specs.Prelude.{◌≤◌, ◌*◌};
 
 use crate::{AppTrace, alone};
 use bundle_model::{RawBundle, RawPart, check};
-use platform_model::{Platform, RawCosts, RawPlatform};
-use soc_base::{Items, Text};
+use platform_model::Platform;
+use soc_base::{Items, LAST_CYCLE, Text};
 use std::alloc::Global;
 use std::process::Abort;
 use std::test::Fail;
 use trace_log::{Kind, PartEnd, TraceRow};
-
-// A platform of one tile whose two partition slots are served from cycles 72 and 200 on, and again
-// 256 cycles later.
-fn platform(alloc: Global) -> Result<Platform, Fail> {
-    let costs = RawCosts {
-        integer: 1,
-        mul: 3,
-        div: 34,
-        load: 2,
-        store: 2,
-        taken: 3,
-        untaken: 1,
-        jump: 3,
-        device: 4,
-        system: 1,
-    };
-    let raw = RawPlatform {
-        tiles: 1,
-        mem_bytes: 4096,
-        slot_cycles: 8,
-        table_slots: 8,
-        kernel_cycles: 72,
-        partition_cycles: 56,
-        partition_slots: 2,
-        ports: 2,
-        queue: 8,
-        links: Items::new(alloc),
-        costs,
-    };
-    Ok(Platform::check(alloc, &raw)?)
-}
 
 // A part that traces 7 and ends: its instructions take 1, 1, 4 and 1 cycles.
 fn part(alloc: Global, slot: i64, entry: i64, trace: i64, kinds: &[&str]) -> Result<RawPart, Fail> {
@@ -76,7 +46,7 @@ fn traced(
     end: u64,
 ) -> Result<AppTrace, Fail>
     requires ordered { start ≤ end }
-    requires bounded { end * platform.now.slot_cycles ≤ 1000000000063 }
+    requires bounded { end * platform.now.slot_cycles ≤ LAST_CYCLE }
 {
     let raw = RawBundle {
         version: 1,
@@ -114,7 +84,7 @@ fn check_trace<A: Abort>(rt: &A, trace: &AppTrace, rows: &[TraceRow], end: PartE
 #[test]
 fn follows_a_program(rt: HostRuntime) -> Result<(), Fail> {
     let alloc = rt.alloc();
-    let platform = platform(alloc)?;
+    let platform = Platform::plain(alloc)?;
     let trace = traced(alloc, &platform, part(alloc, 0, 0, 16, &["word"])?, 1, 48)?;
     check_trace(&rt, &trace, &[row(333, Kind::Word, 7)], halted(334), 0);
     let trace = traced(alloc, &platform, part(alloc, 0, 0, 16, &["word"])?, 0, 9)?;
@@ -127,7 +97,7 @@ fn follows_a_program(rt: HostRuntime) -> Result<(), Fail> {
 #[test]
 fn keeps_the_rows_that_are_named(rt: HostRuntime) -> Result<(), Fail> {
     let alloc = rt.alloc();
-    let platform = platform(alloc)?;
+    let platform = Platform::plain(alloc)?;
     let rows = [
         row(72, Kind::Step, 0),
         row(73, Kind::Step, 4),
@@ -148,7 +118,7 @@ fn keeps_the_rows_that_are_named(rt: HostRuntime) -> Result<(), Fail> {
 #[test]
 fn runs_in_its_slots_from_its_entry(rt: HostRuntime) -> Result<(), Fail> {
     let alloc = rt.alloc();
-    let platform = platform(alloc)?;
+    let platform = Platform::plain(alloc)?;
     let rows = [row(204, Kind::Word, 0)];
     let trace = traced(alloc, &platform, part(alloc, 1, 4, 16, &["word"])?, 16, 48)?;
     check_trace(&rt, &trace, &rows, halted(205), 0);

@@ -1,2 +1,3 @@
 pub mod Words
 pub mod Exclusive
+pub mod Laws

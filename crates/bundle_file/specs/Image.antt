@@ -13,6 +13,7 @@ little_words bytes = map (λ place. little_number 4 (drop (4 * place) bytes)) (r
 unfoldable pub whole_words : List ℕ → Option (List ℕ)
 whole_words bytes = if length bytes % 4 == 0 then Some (little_words bytes) else None
 
+-- the words of what hexadecimal text was decoded to
 abbrev pub decoded_words : Result (List ℕ) FromHexError → Option (List ℕ)
 decoded_words (Ok bytes) = whole_words bytes
 decoded_words (Err fault) = None

@@ -1,3 +1,4 @@
 pub mod Format
 pub mod Image
 pub mod Reading
+pub mod Verdicts

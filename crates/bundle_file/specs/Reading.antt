@@ -1,10 +1,10 @@
 -- What a bundle file means on a platform: the rules B1 to B14 over its document, and the values
 -- that it gives.
-use Rattle.std.specs.Prelude.{◌≡◌, codes, ℕ, Bool, not, ◌&&◌, List, map, Option, Some, None, if◌then◌else◌}
+use Rattle.std.specs.Prelude.{◌≡◌, codes, ℕ, Bool, ◌&&◌, List, map, Option, Some, None}
 use Rattle.std.specs.List.{list_all}
 use Rattle.toml.specs.Data.{Members}
-use Rattle.toml_keys.specs.Document.{Reads}
-use Rattle.toml_keys.specs.Keys.{has_only, has_types}
+use Rattle.toml_keys.specs.Judged.{least_broken, BreaksBy, GivesBy}
+use Rattle.toml_keys.specs.Keys.{KeyRule}
 use Rattle.toml_keys.specs.Values.{integer_at, text_at, table_at, integers_at, texts_at, tables_at}
 use Rattle.platform_model.specs.declared.platform.Platform.{Platform}
 use Rattle.bundle_model.specs.Bundle.{bundle_of}
@@ -19,33 +19,19 @@ use Rattle.bundle_model.specs.declared.rules.BRule.TheVariants.{B1, B2, B3}
 use Rattle.bundle_file.specs.Format.{top_keys, part_keys, pair_keys, channel_keys}
 use Rattle.bundle_file.specs.Image.{image_of}
 
--- each key of a channel pair and of its channels stands in its place
-unfoldable pub knows_pair_keys : Members → Bool
-knows_pair_keys pair =
-    has_only pair_keys pair
-    && has_only channel_keys (table_at (codes "there") pair)
-    && has_only channel_keys (table_at (codes "back") pair)
+-- the tables of a channel pair pass a test with the keys of their places: the pair and its two channels
+unfoldable pub pair_passes : (List KeyRule → Members → Bool) → Members → Bool
+pair_passes test pair =
+    test pair_keys pair
+    && test channel_keys (table_at (codes "there") pair)
+    && test channel_keys (table_at (codes "back") pair)
 
--- each key stands in the table of its place: at the top, in each part and in each channel pair
-unfoldable pub knows_keys : Members → Bool
-knows_keys ms =
-    has_only top_keys ms
-    && list_all (has_only part_keys) (tables_at (codes "part") ms)
-    && list_all knows_pair_keys (tables_at (codes "pair") ms)
-
--- a channel pair and its channels have each required key, and each key has its type
-unfoldable pub knows_pair_types : Members → Bool
-knows_pair_types pair =
-    has_types pair_keys pair
-    && has_types channel_keys (table_at (codes "there") pair)
-    && has_types channel_keys (table_at (codes "back") pair)
-
--- each required key is there, and each key has its type
-unfoldable pub knows_types : Members → Bool
-knows_types ms =
-    has_types top_keys ms
-    && list_all (has_types part_keys) (tables_at (codes "part") ms)
-    && list_all knows_pair_types (tables_at (codes "pair") ms)
+-- each table of a file passes a test with the keys of its place: the top, each part, each channel pair
+unfoldable pub passes : (List KeyRule → Members → Bool) → Members → Bool
+passes test ms =
+    test top_keys ms
+    && list_all (test part_keys) (tables_at (codes "part") ms)
+    && list_all (pair_passes test) (tables_at (codes "pair") ms)
 
 -- the values of a part whose keys have their types
 unfoldable pub raw_part : Members → RawPart
@@ -84,17 +70,16 @@ raw_bundle ms = record {
 
 -- the least rule that a file breaks on a platform, by what its bytes are: a document or none
 unfoldable pub least_rule : Platform → Option Members → Option BRule
-least_rule platform None = Some B1
-least_rule platform (Some ms) =
-    if not (knows_keys ms) then Some B2
-    else if not (knows_types ms) then Some B3
-    else first_rule platform (raw_bundle ms)
+least_rule platform document = least_broken B1 B2 B3 passes (λ ms. first_rule platform (raw_bundle ms)) document
+
+-- a document with these members breaks no rule on the platform, and gives the bundle
+abbrev pub MeansBundle : Platform → Members → Bundle → Type 0
+MeansBundle platform ms bundle = (least_rule platform (Some ms) ≡ None) × (bundle ≡ bundle_of (raw_bundle ms))
 
 -- the rule is the least that the bytes break on the platform
 abbrev pub Breaks : Platform → List ℕ → BRule → Type 0
-Breaks platform bytes rule = (document : Option Members) × Reads bytes document × (least_rule platform document ≡ Some rule)
+Breaks platform bytes rule = BreaksBy (least_rule platform) bytes rule
 
 -- the bytes break no rule on the platform, and give the bundle
 abbrev pub Gives : Platform → List ℕ → Bundle → Type 0
-Gives platform bytes bundle =
-    (ms : Members) × Reads bytes (Some ms) × (least_rule platform (Some ms) ≡ None) × (bundle ≡ bundle_of (raw_bundle ms))
+Gives platform bytes bundle = GivesBy (least_rule platform) (λ ms. bundle ≡ bundle_of (raw_bundle ms)) bytes

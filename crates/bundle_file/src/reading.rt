@@ -4,13 +4,12 @@ ghost use Rattle.std.specs.Prelude.{◌≡◌, Some, None, IfOk};
 ghost use Rattle.toml.specs.View.{table_view};
 ghost use Rattle.bundle_model.specs.Bundle.{bundle_of};
 ghost use Rattle.bundle_model.specs.WellFormed.{IsWellFormed};
-ghost use Rattle.bundle_file.specs.Reading.{raw_bundle, least_rule, Breaks, Gives};
+ghost use Rattle.bundle_file.specs.Reading.{raw_bundle, least_rule, MeansBundle, Breaks, Gives};
 
 use crate::keys::{knows_keys, knows_types};
 use crate::values::raw_bundle;
 use bundle_model::{BRule, Bundle, BundleFault, check};
 use platform_model::Platform;
-use soc_base::NoMemory;
 use std::alloc::Global;
 use toml::Table;
 use toml_keys::{DocumentFault, Level, read_document};
@@ -18,28 +17,25 @@ use toml_keys::{DocumentFault, Level, read_document};
 // The bundle that a document gives.
 #[tactic(auto, unfolding(crate::specs::Reading::least_rule))]
 fn judge(alloc: Global, table: &Table, platform: &Platform) -> Result<Bundle, BundleFault>
-    ensures value { IfOk result (λ bundle. (least_rule platform.now (Some (table_view table.now)) ≡ None) × (bundle ≡ bundle_of (raw_bundle (table_view table.now)))) }
+    ensures value { IfOk result (MeansBundle platform.now (table_view table.now)) }
     ensures well_formed { IfOk result (IsWellFormed platform.now) }
-    ensures rule { (r : _) → result ≡ Err (BundleFault.Rule r) → least_rule platform.now (Some (table_view table.now)) ≡ Some r }
+    ensures rule { (r : _) → result ≡ Err (BundleFault.Rule r) →
+        least_rule platform.now (Some (table_view table.now)) ≡ Some r }
 {
     let file = Level::new(table);
-    let Ok(pairs) = file.tables(alloc, "pair") else {
-        return Err(BundleFault::NoMemory);
-    };
+    let pairs = file.tables(alloc, "pair")?;
     if !knows_keys(&file, &pairs) {
         return Err(BundleFault::Rule(BRule::B2));
     }
     if !knows_types(&file, &pairs) {
         return Err(BundleFault::Rule(BRule::B3));
     }
-    match raw_bundle(alloc, &file, &pairs) {
-        Ok(raw) => check(alloc, &raw, platform),
-        Err(NoMemory) => Err(BundleFault::NoMemory),
-    }
+    let raw = raw_bundle(alloc, &file, &pairs)?;
+    check(alloc, &raw, platform)
 }
 
 /// Reads a bundle file for a platform. Refuses the least rule of B1 to B14 that its bytes break: B1
-/// where they are no TOML document of at most 4 MiB, B2 where a key isn't one that bundle files
+/// where they are no TOML document of at most `MOST_FILE_BYTES`, B2 where a key isn't one that bundle files
 /// have, B3 where a required key is missing or a key has another type, and the others as
 /// `bundle_model::check`.
 #[tactic(auto, unfolding(crate::specs::Reading::least_rule))]
@@ -58,8 +54,6 @@ pub fn read_bundle(alloc: Global, bytes: &[u8], platform: &Platform) -> Result<B
 #[cfg(test)]
 mod tests {
     use super::*;
-    use platform_model::{RawCosts, RawPlatform};
-    use soc_base::Items;
     use std::test::Fail;
 
     // A bundle file that keeps each rule, line by line, each with its key.
@@ -86,35 +80,6 @@ mod tests {
         Ok(text)
     }
 
-    fn platform(alloc: Global) -> Result<Platform, Fail> {
-        let costs = RawCosts {
-            integer: 1,
-            mul: 3,
-            div: 34,
-            load: 2,
-            store: 2,
-            taken: 3,
-            untaken: 1,
-            jump: 3,
-            device: 4,
-            system: 1,
-        };
-        let raw = RawPlatform {
-            tiles: 1,
-            mem_bytes: 4096,
-            slot_cycles: 8,
-            table_slots: 8,
-            kernel_cycles: 72,
-            partition_cycles: 56,
-            partition_slots: 2,
-            ports: 2,
-            queue: 8,
-            links: Items::new(alloc),
-            costs,
-        };
-        Ok(Platform::check(alloc, &raw)?)
-    }
-
     // An image's text: the words' bytes, the lowest first, as hexadecimal digits.
     fn image_text(alloc: Global, words: &[u32]) -> Result<String, Fail> {
         let mut bytes = Vec::new(alloc);
@@ -133,7 +98,7 @@ mod tests {
 
     #[test]
     fn gives_the_values_as_written(rt: HostRuntime) -> Result<(), Fail> {
-        let platform = platform(rt.alloc())?;
+        let platform = Platform::plain(rt.alloc())?;
         let text = changed(rt.alloc(), "", "", "")?;
         let bundle = read_bundle(rt.alloc(), text.as_bytes(), &platform)?;
         assert_eq!(rt; bundle.parts.len(), 1);
@@ -150,7 +115,7 @@ mod tests {
 
     #[test]
     fn reads_images_as_words(rt: HostRuntime) -> Result<(), Fail> {
-        let platform = platform(rt.alloc())?;
+        let platform = Platform::plain(rt.alloc())?;
         let first = [0x0070_0293, 0x8000_0337, 0x0053_2023, 0x0000_0073];
         let mut five = vec![in rt.alloc(); 0x8000_0337]?;
         for _ in 0..5 {
@@ -255,7 +220,7 @@ mod tests {
                 Some(BRule::B11),
             ),
         ];
-        let platform = platform(rt.alloc())?;
+        let platform = Platform::plain(rt.alloc())?;
         for (key, line, tail, rule) in cases {
             let text = changed(rt.alloc(), key, line, tail)?;
             let read = read_bundle(rt.alloc(), text.as_bytes(), &platform);

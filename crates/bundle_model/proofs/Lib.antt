@@ -1,3 +1,9 @@
 pub mod SlotSets
 pub mod Unbroken
 pub mod Listing
+pub mod Places
+pub mod Keyed
+pub mod Meeting
+pub mod Present
+pub mod Holders
+pub mod Laws

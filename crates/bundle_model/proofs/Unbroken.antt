@@ -1,5 +1,5 @@
 -- A bundle whose raw values break no rule is well-formed.
-use Rattle.std.proofs.Common.{◌≡◌, ◌≢◌, ℕ, ℤ, pos, negsuc, ◌+◌, ◌*◌, ◌%◌, ◌<◌, ◌≤◌, ◌+ℤ◌, ◌-ℤ◌, Bool, true, false, not, ◌&&◌, ◌||◌, List, [], ◌∷◌, map, length, All, int_le, int_lt, nat_eq, unwrap_or, Option, Some, None, refl, ap, arith}
+use Rattle.std.proofs.Common.{◌≡◌, ◌≢◌, ℕ, ℤ, pos, negsuc, ◌+◌, ◌*◌, ◌%◌, ◌^◌, ◌<◌, ◌≤◌, ◌+ℤ◌, ◌-ℤ◌, Bool, true, false, not, ◌&&◌, ◌||◌, List, [], ◌∷◌, fold, map, bit_or, length, All, int_le, int_lt, nat_eq, unwrap_or, Option, Some, None, refl, ap, arith}
 use Rattle.std.specs.Prelude.{nat_abs, if◌then◌else◌}
 use Rattle.std.specs.List.{list_any, list_all, find, IsDistinct, AllByRecursion}
 use Rattle.std.specs.Ordering.{int_eq}
@@ -8,6 +8,8 @@ use Rattle.std.proofs.lemmas.Bool.{and_parts, both_ways, not-false, ltb-true, le
 use Rattle.std.proofs.lemmas.Bool.Decides.{Decides-int_eq}
 use Rattle.std.proofs.lemmas.Int.{ints}
 use Rattle.std.proofs.lemmas.List.Elements.{All-nil, All-cons}
+use Rattle.std.proofs.lemmas.Nat.{pow_below}
+use lib.Bits.{or_lt}
 use Rattle.platform_model.specs.Limits.{is_within, is_multiple}
 use Rattle.soc_base.specs.Twins.{has_twin}
 use Rattle.soc_base.specs.declared.limits.TheConstants.{MOST_ROWS}
@@ -88,6 +90,21 @@ for_slots platform (slot ∷ slots) kept =
     let lowest = rises_lower 0 (nat_abs slot) platform.partition_slots (map nat_abs (slot ∷ slots)) (omega arith) rises in
     let sixteen = rises_higher 0 platform.partition_slots 16 (map nat_abs (slot ∷ slots)) platform.partition_slots_in_range.1 lowest in
     (slots_of-rises (slot ∷ slots) sixteen, (λ e. cc), rises_below 0 platform.partition_slots (map nat_abs (slot ∷ slots)) lowest)
+
+-- a set of slots of the platform has no other bit
+set_below : (platform : Platform) (slots : List ℤ) (set : ℕ) → list_all (is_slot platform) slots ≡ true → set < 2 ^ platform.partition_slots → fold (λ set slot. bit_or set (2 ^ nat_abs slot)) set slots < 2 ^ platform.partition_slots
+set_below platform [] set all below = below
+set_below platform (slot ∷ slots) set all below =
+    let here = and_parts (is_slot platform slot) (list_all (is_slot platform) slots) all in
+    let bit = pow_below (nat_abs slot) platform.partition_slots (below_limit slot platform.partition_slots here.0) in
+    set_below platform slots (bit_or set (2 ^ nat_abs slot)) here.1 (or_lt platform.partition_slots set (2 ^ nat_abs slot) below bit)
+
+slots_below : (platform : Platform) (part : RawPart) → has_slots platform part ≡ true → slot_set part.slots < 2 ^ platform.partition_slots
+slots_below platform part kept =
+    let parts = and_parts (not (is_empty part.slots) && list_all (is_slot platform) part.slots) (ascends part.slots) kept in
+    let all = and_parts (not (is_empty part.slots)) (list_all (is_slot platform) part.slots) parts.0 in
+    let some = pow_below 0 platform.partition_slots platform.partition_slots_in_range.0 in
+    set_below platform part.slots 0 all.1 (omega arith)
 
 -- the slots that a part has are those of the file
 pub slots_kept : (platform : Platform) (part : RawPart) → has_slots platform part ≡ true → (slots_of (slot_set part.slots) ≡ map nat_abs part.slots) × (map nat_abs part.slots ≢ []) × All (λ slot. slot < platform.partition_slots) (map nat_abs part.slots)
@@ -182,6 +199,7 @@ part_kept platform part kept =
       on_tile = below_limit part.tile platform.tiles kept.tile;
       some_slot = some;
       slots_exist = exist;
+      slots_below = slots_below platform part kept.slots;
       base_aligned = region.base_aligned;
       len_aligned = region.len_aligned;
       least_len = region.least_len;

@@ -29,7 +29,10 @@ part_of raw = record {
 
 -- the end that a tile and a port mean
 abbrev pub end_of : List ℤ → End
-end_of numbers = record { tile = nat_abs (slice_index_or numbers 0 (pos 0)); port = nat_abs (slice_index_or numbers 1 (pos 0)) }
+end_of numbers = record {
+  tile = nat_abs (slice_index_or numbers 0 (pos 0));
+  port = nat_abs (slice_index_or numbers 1 (pos 0));
+}
 
 -- the channel that raw values mean
 abbrev pub channel_of : RawChannel → Channel

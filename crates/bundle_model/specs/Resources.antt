@@ -56,7 +56,8 @@ is_same _ _ = false
 -- two resources are spans of one tile that share a byte: the later first byte lies before the
 -- earlier end
 abbrev pub shares_byte : Resource → Resource → Bool
-shares_byte (Span tile base len) (Span other at size) = tile == other && nat_lt (max base at) (min (base + len) (at + size))
+shares_byte (Span tile base len) (Span other at size) =
+    tile == other && nat_lt (max base at) (min (base + len) (at + size))
 shares_byte _ _ = false
 
 -- two resources that two applications can't hold at one time

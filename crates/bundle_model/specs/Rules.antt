@@ -84,7 +84,8 @@ communicates raw = list_any has_ports raw.parts || not (is_empty raw.pairs)
 -- B14 of channel pairs, which B11 refuses for now
 abbrev pub breaks : BRule → Platform → RawBundle → Bool
 breaks B4 platform raw = not (int_eq raw.version (pos 1))
-breaks B5 platform raw = is_empty raw.parts || not (list_all (has_tile platform) raw.parts) || has_twin shares_tile raw.parts
+breaks B5 platform raw =
+    is_empty raw.parts || not (list_all (has_tile platform) raw.parts) || has_twin shares_tile raw.parts
 breaks B6 platform raw = not (list_all (has_slots platform) raw.parts)
 breaks B7 platform raw = not (list_all (has_region platform) raw.parts)
 breaks B8 platform raw = not (list_all has_image raw.parts)

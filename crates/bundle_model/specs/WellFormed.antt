@@ -1,5 +1,5 @@
 -- What a bundle is that breaks no rule on a platform.
-use Rattle.std.specs.Prelude.{◌≡◌, ◌≢◌, ◌+◌, ◌*◌, ◌%◌, ◌<◌, ◌≤◌, nat_eq, map, length, [], All}
+use Rattle.std.specs.Prelude.{◌≡◌, ◌≢◌, ◌+◌, ◌*◌, ◌%◌, ◌^◌, ◌<◌, ◌≤◌, nat_eq, map, length, [], All}
 use Rattle.std.specs.List.{IsDistinct}
 use Rattle.platform_model.specs.declared.platform.Platform.{Platform}
 use Rattle.soc_base.specs.Slots.{slots_of}
@@ -12,6 +12,7 @@ pub record IsWellFormedPart (platform : Platform) (part : Part) : Type 0 where
   pub on_tile : part.tile < platform.tiles
   pub some_slot : slots_of part.slots ≢ []
   pub slots_exist : All (λ slot. slot < platform.partition_slots) (slots_of part.slots)
+  pub slots_below : part.slots < 2 ^ platform.partition_slots
   pub base_aligned : part.region.base % 16 ≡ 0
   pub len_aligned : part.region.len % 16 ≡ 0
   pub least_len : 16 ≤ part.region.len

@@ -1,18 +1,14 @@
 -- What a run knows beforehand: a catalog of judged bundles, and the loads that name them.
-use Rattle.std.specs.Prelude.{◌≢◌, ℕ, ◌<◌, ◌≤◌, Bool, ◌&&◌, ◌==◌, List, length, find, Option, All, AllPairs, Contains, IfOk}
+use Rattle.std.specs.Prelude.{◌≢◌, ℕ, ◌<◌, ◌≤◌, ◌==◌, List, length, find, Option, All, AllPairs, Contains, IfOk}
 use Rattle.std.specs.Option.{option_and_then}
 use Rattle.soc_base.specs.declared.limits.TheConstants.{MOST_COMMANDS}
-use Rattle.soc_base.specs.declared.label.Label.{Label}
+pub use Rattle.soc_base.specs.Label.{same_label}
 use Rattle.bundle_model.specs.declared.bundle.Part.{Part}
 use Rattle.bundle_model.specs.declared.world.World.{World}
 use Rattle.bundle_model.specs.declared.world.LoadName.{LoadName}
 use Rattle.bundle_model.specs.declared.world.Grant.{Grant}
 use Rattle.bundle_model.specs.WellFormed.{IsWellFormed}
 use Rattle.bundle_model.specs.Grants.{bundle_at}
-
--- whether two labels are one
-abbrev pub same_label : Label → Label → Bool
-same_label one other = one.session == other.session && one.load == other.load
 
 -- each bundle of the catalog that was judged to break no rule is well-formed for the platform
 abbrev pub IsSoundCatalog : World → Type 0
@@ -32,4 +28,5 @@ AreOfLoads loads grants = All (λ grant. Contains loads (record { label = grant.
 
 -- the part on a tile of the bundle at a place of the catalog, if there is one
 abbrev pub part_on : World → ℕ → ℕ → Option Part
-part_on world tile place = option_and_then (λ bundle. find (λ part. part.tile == tile) bundle.parts) (bundle_at world place)
+part_on world tile place =
+    option_and_then (λ bundle. find (λ part. part.tile == tile) bundle.parts) (bundle_at world place)

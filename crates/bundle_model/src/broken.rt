@@ -42,7 +42,9 @@ fn is_broken(rule: BRule, raw: &RawBundle, platform: &Platform) -> bool
     let parts = raw.parts.as_slice();
     match rule {
         BRule::B4 => raw.version != 1,
-        BRule::B5 => parts.len() == 0 || !have_tiles(parts, platform) || has_twin::<RawPart, OneTile>(parts),
+        BRule::B5 => parts.len() == 0
+            || !have_tiles(parts, platform)
+            || has_twin::<RawPart, OneTile>(parts),
         BRule::B6 => !have_slots(parts, platform),
         BRule::B7 => !have_regions(parts, platform),
         BRule::B8 => !have_images(parts),

@@ -137,7 +137,8 @@ fn add_slots(list: &mut Vec<Resource>, part: &Part) -> Result<(), NoMemory>
 // Appends a partition slot, if the part has it.
 fn add_slot(list: &mut Vec<Resource>, part: &Part, slot: u8) -> Result<(), NoMemory>
     requires { slot < 16 }
-    ensures { OnOk result (list.new.items ≡ list.old.items ++ map (Partition part.now.tile) (slots_at part.now.slots slot)) }
+    ensures { OnOk result (list.new.items ≡ list.old.items
+        ++ map (Partition part.now.tile) (slots_at part.now.slots slot)) }
 {
     if part.has_slot(slot) {
         list.push(Resource::Partition {

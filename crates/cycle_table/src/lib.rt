@@ -10,4 +10,4 @@ mod table;
 #[cfg(test)]
 mod tests;
 
-pub use table::{cost, instr_cost};
+pub use table::{DEVICE_BASE, cost, instr_cost};

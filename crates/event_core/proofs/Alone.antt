@@ -1,5 +1,5 @@
 -- The application of a grant alone, part by part.
-use Rattle.std.proofs.Common.{◌≡◌, ℕ, zero, suc, ◌+◌, ◌-◌, ◌*◌, ◌==◌, Bool, true, false, cond, List, map, find, Option, Some, None, option_map, option_and_then, refl, ap, ◌∙◌}
+use Rattle.std.proofs.Common.{◌≡◌, ℕ, zero, suc, ◌+◌, ◌-◌, ◌*◌, ◌==◌, Bool, true, false, cond, List, [], ◌∷◌, slice_get, map, find, Option, Some, None, option_map, option_and_then, refl, ap, ap₂, ◌∙◌}
 use Rattle.soc_base.specs.Steps.{after_steps}
 use Rattle.soc_base.specs.Time.{runs}
 use Rattle.platform_model.specs.Platform.{frame_of}
@@ -13,9 +13,12 @@ use Rattle.bundle_model.specs.World.{part_on}
 use Rattle.part_model.specs.Part.{PartState, part_cycle}
 use Rattle.alone_model.specs.App.{AppPart, AppState, place_of, opening, part_step, app_cycle, alone_at}
 use Rattle.event_core.specs.Stands.{alone_part}
-use Rattle.event_core.proofs.Places.{find_map}
-use Rattle.event_core.proofs.Homes.{opening_state, state_step, part_run, first_cycle}
-use Rattle.event_core.proofs.Starts.{map_over}
+use Rattle.bundle_model.proofs.Laws.{find_map}
+use Rattle.event_core.proofs.Runs.{opening_state, state_step, part_run, first_cycle}
+
+pub map_over : {X Y Z : Type 0} (f : Y → Z) (g : X → Y) (h : X → Z) (xs : List X) → ((k : ℕ) (x : X) → slice_get xs k ≡ Some x → f (g x) ≡ h x) → map f (map g xs) ≡ map h xs
+map_over f g h [] same = refl
+map_over f g h (x ∷ xs) same = ap₂ (λ z zs. z ∷ zs) (same zero x refl) (map_over f g h xs (λ k y there. same (suc k) y there))
 
 -- a part with its state after so many cycles
 abbrev part_after : World → ℕ → ℕ → Part → AppPart

@@ -1,28 +1,23 @@
 -- Every grant stands on every tile, and leaves the log of its application alone.
-use Rattle.std.proofs.Common.{◌≡◌, ℕ, ◌*◌, ◌<◌, ◌≤◌, ◌⊎◌, min, max, nat_lt, false, List, get_or, All, Option, Some, None, option_map, option_and_then, refl, sym, ap, ◌∙◌, inl, inr, mul-le-mul_right, arith}
-use Rattle.std.specs.List.{range_with_len}
+use Rattle.std.proofs.Common.{◌≡◌, ℕ, ◌*◌, ◌<◌, ◌≤◌, ◌⊎◌, min, max, nat_lt, false, List, get_or, slice_get, All, subst, Option, Some, None, option_map, option_and_then, refl, sym, ap, ◌∙◌, inl, inr, mul-le-mul_right, arith}
 use Rattle.std.specs.Option.{option_map_or}
 use Rattle.std.proofs.lemmas.Bool.{cases_lt, and_parts, and_from, and_left, and_right, lt-ltb, le-ltb, lt-leb, ltb-true, leb-true, false_from_ne_true}
-use Rattle.std.proofs.lemmas.List.Elements.{All-map, All-same}
 use Rattle.std.proofs.lemmas.Option.{slice_get-get_or}
 use Rattle.bundle_model.specs.declared.bundle.Part.{Part}
 use Rattle.bundle_model.specs.declared.world.World.{World}
 use Rattle.bundle_model.specs.declared.world.LoadName.{LoadName}
 use Rattle.bundle_model.specs.declared.world.Grant.{Grant}
-use Rattle.bundle_model.specs.Grants.{lasts_to, IsApart}
+use Rattle.bundle_model.specs.Grants.{lasts_to, stands_at, IsApart}
 use Rattle.bundle_model.specs.World.{part_on, IsSoundWorld, AreOfLoads}
 use Rattle.trace_log.specs.Log.{new_log}
 use Rattle.part_model.specs.Part.{PartState}
-use Rattle.tile_core.specs.declared.resident.Resident.{Resident}
-use Rattle.tile_core.specs.Tile.{TileState, resident_of, log_of, resident_state, state_of}
-use Rattle.tile_core.specs.Fit.{stands_at}
-use Rattle.tile_core.specs.Lockstep.{tile_run, lockstep}
+use Rattle.tile_core.specs.Tile.{TileState, load_place, log_of, state_at, state_of}
+use Rattle.tile_core.specs.Lockstep.{lockstep}
 use Rattle.event_core.specs.Stands.{alone_part, Stands, GrantsStand, stop_slot, LogsAreAlone}
-use Rattle.event_core.proofs.Homes.{opening_state, part_run, first_cycle, stop_cycle, run_by, homes_of, home_tile}
-use Rattle.event_core.proofs.Runs.{run_early, run_before, stop_lasting}
-use Rattle.event_core.proofs.Slots.{lockstep_tiles}
+use Rattle.event_core.proofs.Runs.{opening_state, part_run, first_cycle, stop_cycle, run_by, run_early, run_before, stop_lasting}
 use Rattle.event_core.proofs.Alone.{alone_is}
-use Rattle.event_core.proofs.Found.{IsSettled, IsFound, tile_found, tile_without, after_slots}
+use Rattle.event_core.proofs.Follows.{IsSettled, FollowsOn, lockstep_follows}
+use Rattle.event_core.proofs.Found.{IsFound, no_site, tile_found}
 
 -- before its first slot, and where it ends at its start, a grant doesn't stand
 not_begun : (grant : Grant) (slot : ℕ) → (slot ≤ grant.start) ⊎ (grant.end ≡ Some grant.start) → stands_at slot grant ≡ false
@@ -83,23 +78,19 @@ part_stands world grant part tile on found = record {
 }
 
 -- a grant with no part on the tile
-none_stands : (world : World) (grant : Grant) (tile : TileState) → part_on world tile.number grant.bundle ≡ None → resident_of tile grant.label ≡ None → Stands world grant tile
+none_stands : (world : World) (grant : Grant) (tile : TileState) → part_on world tile.number grant.bundle ≡ None → load_place tile grant.label ≡ None → Stands world grant tile
 none_stands world grant tile none nothing =
-    let no_state : state_of world tile grant.label ≡ None = ap (option_and_then (resident_state world tile)) nothing in
-    let no_log : log_of tile grant.label ≡ None = ap (option_map (λ (r : Resident). r.log)) nothing in
+    let no_state : state_of world tile grant.label ≡ None = ap (option_and_then (state_at world tile)) nothing in
+    let no_log : log_of tile grant.label ≡ None = ap (option_and_then (slice_get tile.logs)) nothing in
     record {
       before = λ early. record { not_installed = no_state; its_log = no_log ∙ sym (ap (option_map (λ (p : Part). new_log p.trace)) none) };
       during = λ begun lasts. no_state ∙ sym (alone_none world grant tile.at tile.number none);
       after = λ end is late past. record { not_installed = no_state; its_log = no_log ∙ sym (ap (option_map (λ (s : PartState). s.log)) (alone_none world grant end tile.number none)) };
     }
 
-run_stands : (world : World) (loads : List LoadName) (grants : List Grant) (number place slot : ℕ) (grant : Grant) (part : Option Part) → IsSettled world loads grants place grant → part_on world number grant.bundle ≡ part → Stands world grant (tile_run world loads grants number slot)
-run_stands world loads grants number place slot grant None so is =
-    after_slots (Stands world grant) world loads grants number place slot grant so (λ memory held.
-    none_stands world grant _ is (tile_without world loads grants number place slot grant memory so is))
-run_stands world loads grants number place slot grant (Some part) so is =
-    after_slots (Stands world grant) world loads grants number place slot grant so (λ memory held.
-    part_stands world grant part _ is (tile_found world loads grants number place slot grant part memory so is held))
+tile_stands : (world : World) (loads : List LoadName) (grants : List Grant) (at : ℕ) (grant : Grant) (tile : TileState) (part : Option Part) → IsSettled world loads grants → slice_get grants at ≡ Some grant → FollowsOn world loads grants tile.at tile → part_on world tile.number grant.bundle ≡ part → Stands world grant tile
+tile_stands world loads grants at grant tile None so there follows is = none_stands world grant tile is (no_site world loads grants at tile.at grant tile so there follows is)
+tile_stands world loads grants at grant tile (Some part) so there follows is = part_stands world grant part tile is (tile_found world loads grants at tile.at grant part tile so there follows is)
 
 -- a stop before the start is none
 late_stop : (world : World) (grant : Grant) (part : Part) (stop : ℕ) → part_run world part (first_cycle world grant) (max grant.start stop * world.platform.slot_cycles) ≡ part_run world part (first_cycle world grant) (stop * world.platform.slot_cycles)
@@ -148,31 +139,30 @@ part_log world grant part tile on found =
     ∙ ap (λ (s : PartState). Some s.log) (run_stopped world grant part tile.at)
     ∙ sym (ap (option_map (λ (s : PartState). s.log)) (alone_some world grant (stop_slot tile.at grant) tile.number part on))
 
-none_log : (world : World) (grant : Grant) (tile : TileState) → part_on world tile.number grant.bundle ≡ None → resident_of tile grant.label ≡ None → LogIsAlone world grant tile.at tile
+none_log : (world : World) (grant : Grant) (tile : TileState) → part_on world tile.number grant.bundle ≡ None → load_place tile grant.label ≡ None → LogIsAlone world grant tile.at tile
 none_log world grant tile none nothing =
-    ap (option_map (λ (r : Resident). r.log)) nothing
+    ap (option_and_then (slice_get tile.logs)) nothing
     ∙ sym (ap (option_map (λ (s : PartState). s.log)) (alone_none world grant (stop_slot tile.at grant) tile.number none))
 
-run_log : (world : World) (loads : List LoadName) (grants : List Grant) (number place budget : ℕ) (grant : Grant) (part : Option Part) → IsSettled world loads grants place grant → part_on world number grant.bundle ≡ part → LogIsAlone world grant budget (tile_run world loads grants number budget)
-run_log world loads grants number place budget grant None so is =
-    after_slots (LogIsAlone world grant budget) world loads grants number place budget grant so (λ memory held.
-    none_log world grant (home_tile world (homes_of world loads grants number) number budget budget (budget * world.platform.slot_cycles) memory) is (tile_without world loads grants number place budget grant memory so is))
-run_log world loads grants number place budget grant (Some part) so is =
-    after_slots (LogIsAlone world grant budget) world loads grants number place budget grant so (λ memory held.
-    part_log world grant part (home_tile world (homes_of world loads grants number) number budget budget (budget * world.platform.slot_cycles) memory) is (tile_found world loads grants number place budget grant part memory so is held))
+tile_log : (world : World) (loads : List LoadName) (grants : List Grant) (at : ℕ) (grant : Grant) (tile : TileState) (part : Option Part) → IsSettled world loads grants → slice_get grants at ≡ Some grant → FollowsOn world loads grants tile.at tile → part_on world tile.number grant.bundle ≡ part → LogIsAlone world grant tile.at tile
+tile_log world loads grants at grant tile None so there follows is = none_log world grant tile is (no_site world loads grants at tile.at grant tile so there follows is)
+tile_log world loads grants at grant tile (Some part) so there follows is = part_log world grant part tile is (tile_found world loads grants at tile.at grant part tile so there follows is)
 
--- what is true of each tile's run, grant by grant, is true in lockstep
-in_lockstep : (P : Grant → TileState → Type 0) (world : World) (loads : List LoadName) (grants : List Grant) (slots : ℕ) → IsSoundWorld world loads → IsApart world grants → AreOfLoads loads grants → ((number place : ℕ) (grant : Grant) → IsSettled world loads grants place grant → P grant (tile_run world loads grants number slots)) → All (λ tile. All (λ grant. P grant tile) grants) (lockstep world loads grants slots).tiles
-in_lockstep P world loads grants slots sound apart of each =
-    All-same (λ (tile : TileState). All (λ grant. P grant tile) grants) _ _ (lockstep_tiles world loads grants slots)
-    (All-map (λ (tile : TileState). All (λ grant. P grant tile) grants) (λ number. tile_run world loads grants number slots) (range_with_len 0 world.platform.tiles)
-    (λ k number inside. λ place grant there. each (get_or (range_with_len 0 world.platform.tiles) k number) place (get_or grants place grant)
-    (record { sound = sound; apart = apart; of_loads = of; there = slice_get-get_or grants place grant there })))
+-- what is true of each grant on a tile that follows, is true in lockstep
+in_lockstep : (P : ℕ → Grant → TileState → Type 0) (world : World) (loads : List LoadName) (grants : List Grant) (slots : ℕ) → IsSoundWorld world loads → IsApart world grants → AreOfLoads loads grants → ((at : ℕ) (grant : Grant) (tile : TileState) → IsSettled world loads grants → slice_get grants at ≡ Some grant → FollowsOn world loads grants tile.at tile → P tile.at grant tile) → All (λ tile. All (λ grant. P slots grant tile) grants) (lockstep world loads grants slots).tiles
+in_lockstep P world loads grants slots sound apart of each = λ k last low at first inside.
+    let so : IsSettled world loads grants = record { sound = sound; apart = apart; of_loads = of } in
+    let tiles = (lockstep world loads grants slots).tiles in
+    let tile = get_or tiles k last in
+    let grant = get_or grants at first in
+    let follows = lockstep_follows world loads grants slots so k tile (slice_get-get_or tiles k last low) in
+    let here = subst (λ u. FollowsOn world loads grants u tile) (sym follows.at) follows in
+    subst (λ u. P u grant tile) follows.at (each at grant tile so (slice_get-get_or grants at first inside) here)
 
 pub grants_stand : GrantsStand
 grants_stand world loads grants slot sound apart of =
-    in_lockstep (λ (grant : Grant) tile. Stands world grant tile) world loads grants slot sound apart of (λ number place grant so. run_stands world loads grants number place slot grant (part_on world number grant.bundle) so refl)
+    in_lockstep (λ slots (grant : Grant) tile. Stands world grant tile) world loads grants slot sound apart of (λ at grant tile so there follows. tile_stands world loads grants at grant tile (part_on world tile.number grant.bundle) so there follows refl)
 
 pub logs_are_alone : LogsAreAlone
 logs_are_alone world loads grants budget sound apart of =
-    in_lockstep (λ (grant : Grant) tile. LogIsAlone world grant budget tile) world loads grants budget sound apart of (λ number place grant so. run_log world loads grants number place budget grant (part_on world number grant.bundle) so refl)
+    in_lockstep (λ slots (grant : Grant) tile. LogIsAlone world grant slots tile) world loads grants budget sound apart of (λ at grant tile so there follows. tile_log world loads grants at grant tile (part_on world tile.number grant.bundle) so there follows refl)

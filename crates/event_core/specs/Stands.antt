@@ -28,7 +28,8 @@ pub record IsAbsent (world : World) (grant : Grant) (tile : TileState) (log : Op
 
 -- The grant stands on a tile as it would alone. Before its first slot, and where it ends at its start,
 -- nothing of it is installed and its log is empty and live. From then on, while it is open and in the
--- slots up to its end, its registers, region and log are those of the application alone at that slot.
+-- slots up to its end, its words (wherever they are: in the register file, in its frame, or some in each),
+-- its region and its log are those of the application alone at that slot.
 -- After its end nothing of it is installed, and its log is that of the application alone at its end.
 pub record Stands (world : World) (grant : Grant) (tile : TileState) : Type 0 where
   pub before : (tile.at ≤ grant.start) ⊎ (grant.end ≡ Some grant.start) → IsAbsent world grant tile (option_map (λ part. new_log part.trace) (part_on world tile.number grant.bundle))

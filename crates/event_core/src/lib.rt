@@ -5,6 +5,6 @@
 #![tactic(auto)]
 
 /// The laws.
-mod laws;
+mod law;
 
-pub use laws::{grants_stand, logs_are_alone};
+pub use law::{grants_stand, logs_are_alone};

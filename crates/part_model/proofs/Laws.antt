@@ -2,3 +2,4 @@
 -- alone.
 pub use Rattle.part_model.proofs.Stretches.{ended_still, ended_stays, waits_for, does_in, cost_of_word}
 pub use Rattle.part_model.proofs.Keeping.{IsKept, cycle_keeps, cycle_size, stretch_size}
+pub use Rattle.part_model.proofs.Shapes.{cycle_registers}

@@ -1,3 +1,4 @@
 pub mod Stretches
 pub mod Keeping
+pub mod Shapes
 pub mod Laws

@@ -14,8 +14,9 @@ use Rattle.rv_core.specs.Registers.{Registers}
 use Rattle.rv_core.specs.Decoding.{decode_of}
 use Rattle.cycle_table.specs.Cost.{cost_of, cost_of_instr}
 use Rattle.part_model.specs.declared.record.Place.{Place}
-use Rattle.part_model.specs.Running.{running_cycle, charged, effect_at, instr_of, decoded_or_illegal, cost_with}
-use Rattle.part_model.specs.Part.{PartState, part_bus, bus_of, settled, unless_ended, part_cycle, word_at_pc, due_in, completed}
+use Rattle.part_model.specs.Running.{running_cycle, charged, effect_at, instr_of, decoded_or_illegal}
+use Rattle.part_model.specs.Part.{PartState, part_bus, bus_of, settled, unless_ended, part_cycle}
+use Rattle.part_model.specs.inner.Steps.{cost_with, word_at_pc, due_in, completed}
 
 unless_still : (end : PartEnd) (p next : PartState) → has_ended end ≡ true → unless_ended end p next ≡ p
 unless_still Live p next ended = absurd (false≢true ended)
@@ -28,12 +29,14 @@ unless_live (Halt code cycle) p next live = grind arith
 unless_live (Fault cause cycle) p next live = grind arith
 
 -- a part that has ended does nothing
-pub ended_still : (costs : Costs) (place : Place) (cycle : ℕ) (p : PartState) → has_ended p.log.end ≡ true → part_cycle costs place cycle p ≡ p
+pub ended_still : (costs : Costs) (place : Place) (cycle : ℕ) (p : PartState) → has_ended p.log.end ≡ true
+    → part_cycle costs place cycle p ≡ p
 unfolding part_cycle
 ended_still costs place cycle p ended = unless_still p.log.end p _ ended
 
 -- in any number of cycles
-pub ended_stays : (costs : Costs) (place : Place) (from n : ℕ) (p : PartState) → has_ended p.log.end ≡ true → after_steps (part_cycle costs place) from n p ≡ p
+pub ended_stays : (costs : Costs) (place : Place) (from n : ℕ) (p : PartState) → has_ended p.log.end ≡ true
+    → after_steps (part_cycle costs place) from n p ≡ p
 ended_stays costs place from n p ended = steps_still (part_cycle costs place) from n p (λ cycle. ended_still costs place cycle p ended)
 
 -- a live part's cycle, by whether its instruction needs more cycles
@@ -41,19 +44,22 @@ live_part : Costs → Place → ℕ → PartState → Bool → PartState
 live_part costs place cycle p more =
     settled place cycle p.regs.pc (cond more (charged (due_in costs p - 1) p.regs (bus_of place cycle p)) (effect_at part_bus p.regs (bus_of place cycle p) (word_at_pc p)))
 
-live_is : (costs : Costs) (place : Place) (cycle : ℕ) (p : PartState) → has_ended p.log.end ≡ false → part_cycle costs place cycle p ≡ live_part costs place cycle p (nat_lt 1 (due_in costs p))
+live_is : (costs : Costs) (place : Place) (cycle : ℕ) (p : PartState) → has_ended p.log.end ≡ false
+    → part_cycle costs place cycle p ≡ live_part costs place cycle p (nat_lt 1 (due_in costs p))
 unfolding part_cycle running_cycle live_part
 live_is costs place cycle p live = unless_live p.log.end p _ live
 
 -- a cycle in which `left` alone falls
-pub charges : (costs : Costs) (place : Place) (cycle : ℕ) (p : PartState) → has_ended p.log.end ≡ false → 1 < due_in costs p → part_cycle costs place cycle p ≡ record p { left = due_in costs p - 1 }
+pub charges : (costs : Costs) (place : Place) (cycle : ℕ) (p : PartState) → has_ended p.log.end ≡ false
+    → 1 < due_in costs p → part_cycle costs place cycle p ≡ record p { left = due_in costs p - 1 }
 unfolding live_part
 charges costs place cycle p live more =
     let test : nat_lt 1 (due_in costs p) ≡ true = grind (arith, nat_tests) in
     live_is costs place cycle p live ∙ ap (live_part costs place cycle p) test
 
 -- the cycle in which an instruction has its effect
-pub completes : (costs : Costs) (place : Place) (cycle : ℕ) (p : PartState) → has_ended p.log.end ≡ false → due_in costs p ≤ 1 → part_cycle costs place cycle p ≡ completed place cycle p (instr_of (word_at_pc p))
+pub completes : (costs : Costs) (place : Place) (cycle : ℕ) (p : PartState) → has_ended p.log.end ≡ false
+    → due_in costs p ≤ 1 → part_cycle costs place cycle p ≡ completed place cycle p (instr_of (word_at_pc p))
 unfolding live_part
 completes costs place cycle p live last =
     let test : nat_lt 1 (due_in costs p) ≡ false = grind (arith, nat_tests) in
@@ -64,7 +70,9 @@ due_left : (costs : Costs) (p : PartState) (left : ℕ) → 0 < left → due_in 
 due_left costs p left some = grind (arith, nat_tests)
 
 -- cycles in which `left` alone falls
-pub waits : (costs : Costs) (place : Place) (from n : ℕ) (p : PartState) → has_ended p.log.end ≡ false → suc n < due_in costs p → after_steps (part_cycle costs place) from (suc n) p ≡ record p { left = due_in costs p - suc n }
+pub waits : (costs : Costs) (place : Place) (from n : ℕ) (p : PartState) → has_ended p.log.end ≡ false
+    → suc n < due_in costs p
+    → after_steps (part_cycle costs place) from (suc n) p ≡ record p { left = due_in costs p - suc n }
 unfolding after_steps
 waits costs place from zero p live more = charges costs place (from + 0) p live (omega arith)
 waits costs place from (suc n) p live more =
@@ -77,7 +85,9 @@ waits costs place from (suc n) p live more =
     ∙ ap (λ (left : ℕ). record p { left = left }) count
 
 -- the cycles of an instruction up to its effect
-pub does : (costs : Costs) (place : Place) (from n : ℕ) (p : PartState) → has_ended p.log.end ≡ false → due_in costs p ≡ suc n → after_steps (part_cycle costs place) from (suc n) p ≡ completed place (from + n) p (instr_of (word_at_pc p))
+pub does : (costs : Costs) (place : Place) (from n : ℕ) (p : PartState) → has_ended p.log.end ≡ false
+    → due_in costs p ≡ suc n
+    → after_steps (part_cycle costs place) from (suc n) p ≡ completed place (from + n) p (instr_of (word_at_pc p))
 unfolding after_steps
 does costs place from zero p live due = completes costs place (from + 0) p live (omega arith)
 does costs place from (suc n) p live due =
@@ -87,22 +97,27 @@ does costs place from (suc n) p live due =
     ∙ completes costs place (from + suc n) (record p { left = left }) live (omega (arith, due_left costs p left (omega arith)))
 
 -- the same for a count that isn't 0
-pub waits_for : (costs : Costs) (place : Place) (from n : ℕ) (p : PartState) → has_ended p.log.end ≡ false → 0 < n → n < due_in costs p → after_steps (part_cycle costs place) from n p ≡ record p { left = due_in costs p - n }
+pub waits_for : (costs : Costs) (place : Place) (from n : ℕ) (p : PartState) → has_ended p.log.end ≡ false → 0 < n
+    → n < due_in costs p → after_steps (part_cycle costs place) from n p ≡ record p { left = due_in costs p - n }
 waits_for costs place from zero p live some more = absurd (omega arith)
 waits_for costs place from (suc n) p live some more = waits costs place from n p live more
 
-pub does_in : (costs : Costs) (place : Place) (from n : ℕ) (p : PartState) → has_ended p.log.end ≡ false → 0 < n → n ≡ due_in costs p → after_steps (part_cycle costs place) from n p ≡ completed place (from + (n - 1)) p (instr_of (word_at_pc p))
+pub does_in : (costs : Costs) (place : Place) (from n : ℕ) (p : PartState) → has_ended p.log.end ≡ false → 0 < n
+    → n ≡ due_in costs p
+    → after_steps (part_cycle costs place) from n p ≡ completed place (from + (n - 1)) p (instr_of (word_at_pc p))
 does_in costs place from zero p live some due = absurd (omega arith)
 does_in costs place from (suc n) p live some due =
     let last : suc n - 1 ≡ n = omega arith in
     does costs place from n p live (sym due) ∙ ap (λ (k : ℕ). completed place (from + k) p (instr_of (word_at_pc p))) (sym last)
 
-cost_of_decoded : (costs : Costs) (regs : Registers) (instr : Option Instr) → option_map_or (cost_of_instr costs regs) instr 1 ≡ cost_with costs regs (decoded_or_illegal instr)
+cost_of_decoded : (costs : Costs) (regs : Registers) (instr : Option Instr)
+    → option_map_or (cost_of_instr costs regs) instr 1 ≡ cost_with costs regs (decoded_or_illegal instr)
 cost_of_decoded costs regs None = refl
 cost_of_decoded costs regs (Some instr) = refl
 
 -- the cost of a word is that of what it stands for
-pub cost_of_word : (costs : Costs) (regs : Registers) (word : Option ℕ) → cost_of costs regs word ≡ cost_with costs regs (instr_of word)
+pub cost_of_word : (costs : Costs) (regs : Registers) (word : Option ℕ)
+    → cost_of costs regs word ≡ cost_with costs regs (instr_of word)
 unfolding cost_of
 cost_of_word costs regs None = refl
 cost_of_word costs regs (Some word) = cost_of_decoded costs regs (decode_of word)

@@ -1,23 +1,21 @@
 -- A part of an application, cycle by cycle.
-use Rattle.std.specs.Prelude.{ℕ, List, Option, Some, None, Result}
-use Rattle.soc_base.specs.declared.cause.Cause.{Cause}
+use Rattle.std.specs.Prelude.{ℕ, List, Option, Some, None}
 use Rattle.platform_model.specs.declared.costs.Costs.{Costs}
-use Rattle.rv_core.specs.declared.instr.Instr.{Instr}
 use Rattle.rv_core.specs.declared.execution.Outcome.{Outcome}
 use Rattle.rv_core.specs.declared.execution.Outcome.TheVariants.{Next, Stall, Halt, Fault}
 use Rattle.rv_core.specs.Registers.{Registers}
-use Rattle.tile_memory.specs.Bytes.{fetch_of}
+use Rattle.rv_core.specs.Access.{BusMeaning}
 use Rattle.trace_log.specs.declared.row.Kind.TheVariants.{Step}
 use Rattle.trace_log.specs.declared.row.PartEnd.{PartEnd}
 use Rattle.trace_log.specs.declared.row.PartEnd.TheVariants.{Live, Halt as Halted, Fault as Faulted}
 use Rattle.trace_log.specs.Log.{Log, finished}
 use Rattle.part_model.specs.declared.record.Place.{Place}
-use Rattle.part_model.specs.Running.{BusMeaning, meaning_of, CycleEnd, running_cycle, due_of, effect_with}
+use Rattle.part_model.specs.Running.{CycleEnd, running_cycle}
 use Rattle.part_model.specs.Answers.{BusState, fetch_answer, load_answer, store_answer, traced}
 
 -- how a part's bus answers
 abbrev pub part_bus : BusMeaning BusState
-part_bus = meaning_of fetch_answer load_answer store_answer
+part_bus = record { fetch = fetch_answer; load = load_answer; store = store_answer }
 
 -- what a part is between two cycles: its registers, the cycles left of the instruction that it executes
 -- (0 where it begins none), the bytes of its region, and its log, which holds also how it stands
@@ -42,24 +40,19 @@ log_after place cycle pc (Some (Fault cause)) log = finished (Faulted cause cycl
 
 -- the part after a running cycle that ended so
 abbrev pub settled : Place → ℕ → ℕ → CycleEnd BusState → PartState
-settled place cycle pc end = record { regs = end.regs; left = end.left; bytes = end.bus.bytes; log = log_after place cycle pc end.outcome end.bus.log }
-
--- the word at a part's pc
-abbrev pub word_at_pc : PartState → Option ℕ
-word_at_pc p = fetch_of p.bytes p.regs.pc
-
--- how many cycles the instruction at a part's pc needs still
-abbrev pub due_in : Costs → PartState → ℕ
-due_in costs p = due_of costs p.regs p.left (word_at_pc p)
-
--- the part after the cycle in which what stands at its pc had its effect
-abbrev pub completed : Place → ℕ → PartState → Result Instr Cause → PartState
-completed place cycle p here = settled place cycle p.regs.pc (effect_with part_bus p.regs (bus_of place cycle p) here)
+settled place cycle pc end = record {
+  regs = end.regs;
+  left = end.left;
+  bytes = end.bus.bytes;
+  log = log_after place cycle pc end.outcome end.bus.log;
+}
 
 -- the part after a cycle in which it runs, where it hasn't ended
 abbrev pub live_cycle : Costs → Place → ℕ → PartState → PartState
-live_cycle costs place cycle p = settled place cycle p.regs.pc (running_cycle part_bus costs p.regs p.left (bus_of place cycle p))
+live_cycle costs place cycle p =
+    settled place cycle p.regs.pc (running_cycle part_bus costs p.regs p.left (bus_of place cycle p))
 
+-- a part that has ended stays as it is
 abbrev pub unless_ended : PartEnd → PartState → PartState → PartState
 unless_ended Live p next = next
 unless_ended (Halted code cycle) p next = p

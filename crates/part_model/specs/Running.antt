@@ -1,27 +1,17 @@
 -- One running cycle of a part, on any bus: the word at pc is fetched, its cost is counted down, and in
 -- the last cycle of its cost the instruction has its effect.
 use Rattle.std.specs.Prelude.{ℕ, ◌-◌, ◌==◌, nat_lt, if◌then◌else◌, Option, Some, None, Result, Ok, Err}
-use Rattle.soc_base.specs.declared.region.Width.{Width}
 use Rattle.soc_base.specs.declared.cause.Cause.{Cause}
 use Rattle.soc_base.specs.declared.cause.Cause.TheVariants.{Illegal, Fetch}
 use Rattle.platform_model.specs.declared.costs.Costs.{Costs}
 use Rattle.rv_core.specs.declared.instr.Instr.{Instr}
-use Rattle.rv_core.specs.declared.bus.Answer.{Answer}
 use Rattle.rv_core.specs.declared.execution.Outcome.{Outcome}
 use Rattle.rv_core.specs.declared.execution.Outcome.TheVariants.{Next, Stall, Halt, Fault}
 use Rattle.rv_core.specs.Registers.{Registers}
 use Rattle.rv_core.specs.Decoding.{decode_of}
-use Rattle.rv_core.specs.Effect.{request_of, effect_of, ask}
-use Rattle.cycle_table.specs.Cost.{cost_of, cost_of_instr}
-
--- how a bus answers: the word at an address, and what a load or a store gives and leaves
-pub record BusMeaning (S : Type 0) : Type 0 where
-  pub fetch : S → ℕ → Option ℕ
-  pub load : S → ℕ → Width → Answer × S
-  pub store : S → ℕ → Width → ℕ → Answer × S
-
-abbrev pub meaning_of : {S : Type 0} → (S → ℕ → Option ℕ) → (S → ℕ → Width → Answer × S) → (S → ℕ → Width → ℕ → Answer × S) → BusMeaning S
-meaning_of fetch load store = record { fetch = fetch; load = load; store = store }
+use Rattle.rv_core.specs.Access.{BusMeaning}
+use Rattle.rv_core.specs.Effect.{step_of}
+use Rattle.cycle_table.specs.Cost.{cost_of}
 
 -- the end of a running cycle: what the instruction came to, or none where it needs more cycles; the
 -- registers; how many cycles the instruction needs still; and what the bus is left as
@@ -38,29 +28,23 @@ left_after Stall = 1
 left_after (Halt code) = 0
 left_after (Fault cause) = 0
 
+-- the cycle in which an instruction came to an outcome
 abbrev pub ended : {S : Type 0} → Outcome → Registers → S → CycleEnd S
 ended outcome regs bus = record { outcome = Some outcome; regs = regs; left = left_after outcome; bus = bus }
 
--- the effect of an instruction, by its request to the bus and the answer
+-- the effect of an instruction
 abbrev pub executed : {S : Type 0} → BusMeaning S → Registers → S → Instr → CycleEnd S
-executed meaning regs bus instr =
-    let asked = ask meaning.load meaning.store (request_of regs instr) bus in
-    let effect = effect_of regs instr asked.0 in
-    ended effect.outcome effect.regs asked.1
+executed meaning regs bus instr = let step = step_of meaning regs bus instr in ended step.outcome step.regs step.bus
 
 -- what stands at pc: an instruction, or the cause for which there is none
 abbrev pub decoded_or_illegal : Option Instr → Result Instr Cause
 decoded_or_illegal None = Err Illegal
 decoded_or_illegal (Some instr) = Ok instr
 
+-- the same by the word there, if there is one
 abbrev pub instr_of : Option ℕ → Result Instr Cause
 instr_of None = Err Fetch
 instr_of (Some word) = decoded_or_illegal (decode_of word)
-
--- what it costs: 1 where there is no instruction
-abbrev pub cost_with : Costs → Registers → Result Instr Cause → ℕ
-cost_with costs regs (Err cause) = 1
-cost_with costs regs (Ok instr) = cost_of_instr costs regs instr
 
 -- the effect of what stands at pc
 abbrev pub effect_with : {S : Type 0} → BusMeaning S → Registers → S → Result Instr Cause → CycleEnd S
@@ -76,11 +60,14 @@ effect_at meaning regs bus word = effect_with meaning regs bus (instr_of word)
 abbrev pub due_of : Costs → Registers → ℕ → Option ℕ → ℕ
 due_of costs regs left word = if left == 0 then cost_of costs regs word else left
 
+-- a cycle after which the instruction needs more
 abbrev pub charged : {S : Type 0} → ℕ → Registers → S → CycleEnd S
 charged left regs bus = record { outcome = None; regs = regs; left = left; bus = bus }
 
+-- the cycle in which the instruction at pc needs `due` cycles, this one counted
 abbrev pub cycle_with : {S : Type 0} → BusMeaning S → ℕ → Registers → S → Option ℕ → CycleEnd S
-cycle_with meaning due regs bus word = if nat_lt 1 due then charged (due - 1) regs bus else effect_at meaning regs bus word
+cycle_with meaning due regs bus word =
+    if nat_lt 1 due then charged (due - 1) regs bus else effect_at meaning regs bus word
 
 -- one running cycle
 unfoldable pub running_cycle : {S : Type 0} → BusMeaning S → Costs → Registers → ℕ → S → CycleEnd S

@@ -6,10 +6,14 @@
 //! both made of these.
 #![tactic(auto)]
 
+/// The device registers.
+mod device;
 /// What a cycle leaves in the log.
 mod record;
 /// The cycle of a running core.
 mod running;
 
+pub use cycle_table::DEVICE_BASE;
+pub use device::{CYCLE, CYCLEH, TRACE};
 pub use record::{Place, record_outcome, trace};
 pub use running::{cost_at, effect, instr_at, left_after};

@@ -2,8 +2,10 @@
 
 ghost use Rattle.std.specs.Prelude.{◌≡◌, ◌<◌, ◌≤◌, Option, IfOk};
 ghost use Rattle.std.specs.Result.{ForOk};
+ghost use Rattle.soc_base.specs.declared.limits.TheConstants.{MOST_COST};
 ghost use Rattle.rv_core.specs.Table.{IsInRange};
-ghost use Rattle.part_model.specs.Running.{meaning_of, effect_with, cost_with, instr_of, left_after};
+ghost use Rattle.part_model.specs.Running.{effect_with, instr_of, left_after};
+ghost use Rattle.part_model.specs.inner.Steps.{cost_with};
 
 use cycle_table::instr_cost;
 use platform_model::Costs;
@@ -24,12 +26,12 @@ pub fn instr_at(word: Option<u32>) -> Result<Instr, Cause>
     Ok(instr)
 }
 
-/// Answers the cost of what stands at pc, in running cycles from 1 to 64, by the registers as they are before
+/// Answers the cost of what stands at pc, in running cycles from 1 to `MOST_COST`, by the registers as they are before
 /// the instruction.
 pub fn cost_at(costs: &Costs, regs: &Regs, here: Result<Instr, Cause>) -> u8
     requires { ForOk here IsInRange }
     ensures value { result ≡ cost_with costs.now regs.now here }
-    ensures range { (0 < result) × (result ≤ 64) }
+    ensures range { (0 < result) × (result ≤ MOST_COST) }
 {
     match here {
         Ok(instr) => instr_cost(costs, regs, instr),
@@ -51,9 +53,9 @@ pub fn left_after(outcome: Outcome) -> u8
 /// Does what stands at pc, on a bus, and answers what it came to. Registers change on `Next` alone.
 pub fn effect<B: Bus>(regs: &mut Regs, bus: &mut B, here: Result<Instr, Cause>) -> Outcome
     requires { ForOk here IsInRange }
-    ensures outcome { Some result ≡ (effect_with (meaning_of B.fetch_at B.load_at B.store_at) regs.old (B.state bus.old) here).outcome }
-    ensures regs { regs.new ≡ (effect_with (meaning_of B.fetch_at B.load_at B.store_at) regs.old (B.state bus.old) here).regs }
-    ensures bus { B.state bus.new ≡ (effect_with (meaning_of B.fetch_at B.load_at B.store_at) regs.old (B.state bus.old) here).bus }
+    ensures outcome { Some result ≡ (effect_with B.answers regs.old (B.state bus.old) here).outcome }
+    ensures regs { regs.new ≡ (effect_with B.answers regs.old (B.state bus.old) here).regs }
+    ensures bus { B.state bus.new ≡ (effect_with B.answers regs.old (B.state bus.old) here).bus }
     ensures kept { B.kept bus.new ≡ B.kept bus.old }
 {
     match here {

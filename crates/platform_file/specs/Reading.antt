@@ -1,9 +1,9 @@
 -- What a platform file means: the rules P1 to P12 over its document, and the numbers that it gives.
-use Rattle.std.specs.Prelude.{◌≡◌, codes, ℕ, Bool, not, ◌&&◌, List, map, Option, Some, None, if◌then◌else◌}
+use Rattle.std.specs.Prelude.{◌≡◌, codes, ℕ, Bool, ◌&&◌, List, map, Option, Some, None}
 use Rattle.std.specs.List.{list_all}
 use Rattle.toml.specs.Data.{Members}
-use Rattle.toml_keys.specs.Document.{Reads}
-use Rattle.toml_keys.specs.Keys.{has_only, has_types}
+use Rattle.toml_keys.specs.Judged.{least_broken, BreaksBy, GivesBy}
+use Rattle.toml_keys.specs.Keys.{KeyRule}
 use Rattle.toml_keys.specs.Values.{integer_at, integer_or, table_at, tables_at}
 use Rattle.platform_model.specs.Platform.{raw_of}
 use Rattle.platform_model.specs.Rules.{first_rule}
@@ -16,19 +16,12 @@ use Rattle.platform_model.specs.declared.rules.PRule.{PRule}
 use Rattle.platform_model.specs.declared.rules.PRule.TheVariants.{P1, P2, P3}
 use Rattle.platform_file.specs.Format.{top_keys, link_keys, cost_keys}
 
--- each key stands in the table of its place: at the top, in each link and in the costs
-unfoldable pub knows_keys : Members → Bool
-knows_keys ms =
-    has_only top_keys ms
-    && list_all (has_only link_keys) (tables_at (codes "link") ms)
-    && has_only cost_keys (table_at (codes "costs") ms)
-
--- each required key is there, and each key has its type
-unfoldable pub knows_types : Members → Bool
-knows_types ms =
-    has_types top_keys ms
-    && list_all (has_types link_keys) (tables_at (codes "link") ms)
-    && has_types cost_keys (table_at (codes "costs") ms)
+-- each table of a file passes a test with the keys of its place: the top, each link, and the costs
+unfoldable pub passes : (List KeyRule → Members → Bool) → Members → Bool
+passes test ms =
+    test top_keys ms
+    && list_all (test link_keys) (tables_at (codes "link") ms)
+    && test cost_keys (table_at (codes "costs") ms)
 
 -- the numbers of a link
 unfoldable pub link_of : Members → RawLink
@@ -72,17 +65,16 @@ platform_of ms = record {
 
 -- the least rule that a file breaks, by what its bytes are: a document or none
 unfoldable pub least_rule : Option Members → Option PRule
-least_rule None = Some P1
-least_rule (Some ms) =
-    if not (knows_keys ms) then Some P2
-    else if not (knows_types ms) then Some P3
-    else first_rule (platform_of ms)
+least_rule document = least_broken P1 P2 P3 passes (λ ms. first_rule (platform_of ms)) document
+
+-- a document with these members breaks no rule, and gives the platform
+abbrev pub MeansPlatform : Members → Platform → Type 0
+MeansPlatform ms platform = (least_rule (Some ms) ≡ None) × (raw_of platform ≡ platform_of ms)
 
 -- the rule is the least that the bytes break
 abbrev pub Breaks : List ℕ → PRule → Type 0
-Breaks bytes rule = (document : Option Members) × Reads bytes document × (least_rule document ≡ Some rule)
+Breaks bytes rule = BreaksBy least_rule bytes rule
 
 -- the bytes break no rule, and give the platform
 abbrev pub Gives : List ℕ → Platform → Type 0
-Gives bytes platform =
-    (ms : Members) × Reads bytes (Some ms) × (least_rule (Some ms) ≡ None) × (raw_of platform ≡ platform_of ms)
+Gives bytes platform = GivesBy least_rule (λ ms. raw_of platform ≡ platform_of ms) bytes

@@ -2,22 +2,25 @@
 
 ghost use Rattle.std.specs.Prelude.{◌≡◌, codes, Some, None, IfOk, map};
 ghost use Rattle.toml.specs.View.{table_view};
+ghost use Rattle.toml_keys.specs.Keys.{has_only, has_types};
 ghost use Rattle.toml_keys.specs.Values.{table_at, tables_at};
 ghost use Rattle.toml_keys.specs.Level.{level_members};
 ghost use Rattle.platform_model.specs.Platform.{raw_of};
-ghost use Rattle.platform_file.specs.Reading.{knows_keys, knows_types, link_of, costs_of, platform_of, least_rule, Breaks, Gives};
+ghost use Rattle.platform_file.specs.Reading.{passes, link_of, costs_of, platform_of, least_rule, MeansPlatform, Breaks, Gives};
 
 use crate::format::{cost_keys, link_keys, top_keys};
-use platform_model::{DEFAULT_COSTS, PRule, Platform, PlatformFault, RawCosts, RawLink, RawPlatform};
+use platform_model::{
+    DEFAULT_COSTS, PRule, Platform, PlatformFault, RawCosts, RawLink, RawPlatform,
+};
 use soc_base::{Items, NoMemory};
 use std::alloc::Global;
 use toml::Table;
 use toml_keys::{DocumentFault, Level, read_document};
 
 // Whether each key is one that platform files have.
-#[tactic(auto, unfolding(crate::specs::Reading::knows_keys))]
+#[tactic(auto, unfolding(crate::specs::Reading::passes))]
 fn knows_keys(file: &Level) -> bool
-    ensures { result ≡ knows_keys (level_members file.now) }
+    ensures { result ≡ passes has_only (level_members file.now) }
 {
     let top = file.has_only(&top_keys());
     let links = file.tables_have_only("link", &link_keys());
@@ -26,9 +29,9 @@ fn knows_keys(file: &Level) -> bool
 }
 
 // Whether each required key is there, and each key has its type.
-#[tactic(auto, unfolding(crate::specs::Reading::knows_types))]
+#[tactic(auto, unfolding(crate::specs::Reading::passes))]
 fn knows_types(file: &Level) -> bool
-    ensures { result ≡ knows_types (level_members file.now) }
+    ensures { result ≡ passes has_types (level_members file.now) }
 {
     let top = file.has_types(&top_keys());
     let links = file.tables_have_types("link", &link_keys());
@@ -114,8 +117,9 @@ fn platform_of(alloc: Global, file: &Level) -> Result<RawPlatform, NoMemory>
 // The platform that a document gives.
 #[tactic(auto, unfolding(crate::specs::Reading::least_rule))]
 fn judge(alloc: Global, table: &Table) -> Result<Platform, PlatformFault>
-    ensures value { IfOk result (λ platform. (least_rule (Some (table_view table.now)) ≡ None) × (raw_of platform ≡ platform_of (table_view table.now))) }
-    ensures rule { (r : _) → result ≡ Err (PlatformFault.Rule r) → least_rule (Some (table_view table.now)) ≡ Some r }
+    ensures value { IfOk result (MeansPlatform (table_view table.now)) }
+    ensures rule { (r : _) → result ≡ Err (PlatformFault.Rule r) →
+        least_rule (Some (table_view table.now)) ≡ Some r }
 {
     let file = Level::new(table);
     if !knows_keys(&file) {
@@ -129,7 +133,7 @@ fn judge(alloc: Global, table: &Table) -> Result<Platform, PlatformFault>
 }
 
 /// Reads a platform file. Refuses the least rule of P1 to P12 that its bytes break: P1 where they
-/// are no TOML document of at most 4 MiB, P2 where a key isn't one that platform files have, P3
+/// are no TOML document of at most `MOST_FILE_BYTES`, P2 where a key isn't one that platform files have, P3
 /// where a required key is missing or a key has another type, and the others as `Platform::check`.
 #[tactic(auto, unfolding(crate::specs::Reading::least_rule))]
 pub fn read_platform(alloc: Global, bytes: &[u8]) -> Result<Platform, PlatformFault>

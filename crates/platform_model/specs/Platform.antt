@@ -49,4 +49,8 @@ Judges least (Err NoMemory) = Unit {0}
 
 -- the frame by which partitions share a core of the platform
 abbrev pub frame_of : Platform → FrameTimes
-frame_of platform = record { kernel = platform.kernel_cycles; partition = platform.partition_cycles; slots = platform.partition_slots }
+frame_of platform = record {
+  kernel = platform.kernel_cycles;
+  partition = platform.partition_cycles;
+  slots = platform.partition_slots;
+}

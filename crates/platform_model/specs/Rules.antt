@@ -41,7 +41,9 @@ are_costs costs =
 abbrev pub breaks : PRule → RawPlatform → Bool
 breaks P4 raw = not (is_within raw.tiles (pos 1) (pos MOST_TILES) && tiles_built raw.tiles)
 breaks P5 raw = not (is_memory raw.mem_bytes)
-breaks P6 raw = not (is_within raw.slot_cycles (pos 1) (pos MOST_SLOT_CYCLES) && is_within raw.table_slots (pos 1) (pos MOST_TABLE_SLOTS))
+breaks P6 raw =
+    not (is_within raw.slot_cycles (pos 1) (pos MOST_SLOT_CYCLES)
+    && is_within raw.table_slots (pos 1) (pos MOST_TABLE_SLOTS))
 breaks P7 raw = not (is_frame raw)
 breaks P8 raw = not (is_within raw.ports (pos 0) (pos MOST_PORTS) && is_within raw.queue (pos 1) (pos MOST_QUEUE))
 breaks P9 raw = not (nat_le (length raw.links) MOST_LINKS && list_all (joins_tiles raw.tiles) raw.links)

@@ -54,7 +54,8 @@ fn is_broken(rule: PRule, raw: &RawPlatform) -> bool
             !(is_between(raw.ports, 0, i64::from(MOST_PORTS))
                 && is_between(raw.queue, 1, i64::from(MOST_QUEUE)))
         }
-        PRule::P9 => !(raw.links.len() <= MOST_LINKS && join_tiles(raw.tiles, raw.links.as_slice())),
+        PRule::P9 => !(raw.links.len() <= MOST_LINKS
+            && join_tiles(raw.tiles, raw.links.as_slice())),
         PRule::P10 => !have_router_ports(raw.links.as_slice()),
         PRule::P11 => share_ports(raw.links.as_slice()),
         PRule::P12 => !are_in_range(&raw.costs),
@@ -107,9 +108,7 @@ fn joins(tiles: i64, link: &RawLink) -> bool
 fn have_router_ports(links: &[RawLink]) -> bool
     ensures { result ≡ list_all has_router_ports links.now }
 {
-    links
-        .iter()
-        .all(|link| is_router_port(link.out) && is_router_port(link.input))
+    links.iter().all(|link| is_router_port(link.out) && is_router_port(link.input))
 }
 
 // Whether a port is one of a router's.
@@ -168,7 +167,8 @@ fn are_in_range(costs: &RawCosts) -> bool
         costs.device,
         costs.system,
     ];
-    all.iter().all(|cost| is_between(*cost, 1, i64::from(MOST_COST)))
+    all.iter()
+        .all(|cost| is_between(*cost, 1, i64::from(MOST_COST)))
 }
 
 #[cfg(test)]
@@ -205,8 +205,16 @@ mod tests {
             let links = [link(one), link(other)];
             assert_eq!(rt; join_tiles(2, &links), joined, "at {one:?} {other:?}");
             assert_eq!(rt; have_router_ports(&links), within, "at {one:?} {other:?}");
-            assert_eq!(rt; has_twin::<RawLink, Leaving>(&links), left, "at {one:?} {other:?}");
-            assert_eq!(rt; has_twin::<RawLink, Entering>(&links), entered, "at {one:?} {other:?}");
+            assert_eq!(rt;
+                has_twin::<RawLink, Leaving>(&links),
+                left,
+                "at {one:?} {other:?}"
+            );
+            assert_eq!(rt;
+                has_twin::<RawLink, Entering>(&links),
+                entered,
+                "at {one:?} {other:?}"
+            );
         }
     }
 

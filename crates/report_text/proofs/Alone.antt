@@ -35,8 +35,7 @@ use Rattle.report_text.specs.Rows.{part_text}
 use Rattle.report_text.specs.inner.Room.{bundle_rows, most_rows}
 use Rattle.report_text.specs.inner.Logs.{log_on, rows_on, line_on, HoldsAlone}
 use Rattle.vep_manager.proofs.Laws.{sound_world, legal_apart, grants_of_loads}
-use Rattle.event_core.proofs.Standing.{logs_are_alone}
-use Rattle.report_text.proofs.TileNumbers.{tiles_numbered}
+use Rattle.event_core.proofs.Laws.{logs_are_alone, tiles_numbered}
 
 -- a bundle of the catalog is well-formed, and its rows are at most the most rows
 max_grows : (most : ℕ) (xs : List ℕ) → most ≤ fold (λ most rows. max most rows) most xs
@@ -273,7 +272,7 @@ holds_alone setup end sound legal in_step =
     holds_for setup end (lockstep setup.world setup.loads grants setup.budget).tiles (get_or grants k d) bundle
         sound.catalog (record {
       in_step = in_step;
-      numbered = tiles_numbered setup.world setup.loads grants setup.budget;
+      numbered = tiles_numbered setup.world setup.loads grants setup.budget (sound_world setup sound) apart of_loads;
       alone = λ m e within. logs_are_alone setup.world setup.loads grants setup.budget (sound_world setup sound) apart
           of_loads m e within k d inside;
     }) known

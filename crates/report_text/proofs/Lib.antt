@@ -2,4 +2,3 @@ pub mod RowCounts
 pub mod Prints
 pub mod AppTexts
 pub mod Alone
-pub mod TileNumbers

@@ -1,3 +1,4 @@
 pub mod RoundTrip
 pub mod StepLemmas
-pub mod Validity
+pub mod Shapes
+pub mod Laws

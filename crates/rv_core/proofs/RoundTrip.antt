@@ -31,7 +31,8 @@ i_imm-i_type opcode funct3 rd rs1 imm range = grind (arith, ints)
 s_imm-s_type : (opcode funct3 rs1 rs2 : ℕ) (imm : ℤ) → IsOfBits 12 imm → s_imm (s_type opcode funct3 rs1 rs2 imm) ≡ imm
 s_imm-s_type opcode funct3 rs1 rs2 imm range = grind (arith, ints)
 
-b_imm-b_type : (opcode funct3 rs1 rs2 : ℕ) (imm : ℤ) → IsOfBits 13 imm → IsEven imm → b_imm (b_type opcode funct3 rs1 rs2 imm) ≡ imm
+b_imm-b_type : (opcode funct3 rs1 rs2 : ℕ) (imm : ℤ) → IsOfBits 13 imm → IsEven imm
+    → b_imm (b_type opcode funct3 rs1 rs2 imm) ≡ imm
 b_imm-b_type opcode funct3 rs1 rs2 imm range even = grind (arith, ints)
 
 j_imm-j_type : (opcode rd : ℕ) (imm : ℤ) → IsOfBits 21 imm → IsEven imm → j_imm (j_type opcode rd imm) ≡ imm
@@ -49,13 +50,16 @@ record StandsFor (f : Fields) (i : Instr) : Type 0 where
   meaning : decoded f ≡ Some i
 
 -- the fields of each format stand for the instruction that opcode, funct3 and funct7 name
-of_branch : (op : BranchOp) (funct3 rs1 rs2 : ℕ) (imm : ℤ) → branch_op_at funct3 ≡ Some op → funct3 < 8 → rs1 < 32 → rs2 < 32 → IsOfBits 13 imm → IsEven imm → StandsFor (b_type 0b1100011 funct3 rs1 rs2 imm) (Branch op rs1 rs2 imm)
+of_branch : (op : BranchOp) (funct3 rs1 rs2 : ℕ) (imm : ℤ) → branch_op_at funct3 ≡ Some op → funct3 < 8 → rs1 < 32
+    → rs2 < 32 → IsOfBits 13 imm → IsEven imm → StandsFor (b_type 0b1100011 funct3 rs1 rs2 imm)
+    (Branch op rs1 rs2 imm)
 of_branch op funct3 rs1 rs2 imm named small in_rs1 in_rs2 range even = record {
   fit = search (arith, ints);
   meaning = ap (option_map (λ o. Branch o rs1 rs2 (b_imm (b_type 0b1100011 funct3 rs1 rs2 imm)))) named ∙ ap (λ d. Some (Branch op rs1 rs2 d)) (b_imm-b_type 0b1100011 funct3 rs1 rs2 imm range even);
 }
 
-branch_stands : (op : BranchOp) (rs1 rs2 : ℕ) (imm : ℤ) → IsInRange (Branch op rs1 rs2 imm) → StandsFor (branch_type op rs1 rs2 imm) (Branch op rs1 rs2 imm)
+branch_stands : (op : BranchOp) (rs1 rs2 : ℕ) (imm : ℤ) → IsInRange (Branch op rs1 rs2 imm)
+    → StandsFor (branch_type op rs1 rs2 imm) (Branch op rs1 rs2 imm)
 branch_stands Beq rs1 rs2 imm r = of_branch Beq 0b000 rs1 rs2 imm refl (lit< tt) r.0 r.1 r.2 r.3
 branch_stands Bne rs1 rs2 imm r = of_branch Bne 0b001 rs1 rs2 imm refl (lit< tt) r.0 r.1 r.2 r.3
 branch_stands Blt rs1 rs2 imm r = of_branch Blt 0b100 rs1 rs2 imm refl (lit< tt) r.0 r.1 r.2 r.3
@@ -63,37 +67,45 @@ branch_stands Bge rs1 rs2 imm r = of_branch Bge 0b101 rs1 rs2 imm refl (lit< tt)
 branch_stands Bltu rs1 rs2 imm r = of_branch Bltu 0b110 rs1 rs2 imm refl (lit< tt) r.0 r.1 r.2 r.3
 branch_stands Bgeu rs1 rs2 imm r = of_branch Bgeu 0b111 rs1 rs2 imm refl (lit< tt) r.0 r.1 r.2 r.3
 
-of_load : (op : LoadOp) (funct3 rd rs1 : ℕ) (imm : ℤ) → load_op_at funct3 ≡ Some op → funct3 < 8 → rd < 32 → rs1 < 32 → IsOfBits 12 imm → StandsFor (i_type 0b0000011 funct3 rd rs1 imm) (Load op rd rs1 imm)
+of_load : (op : LoadOp) (funct3 rd rs1 : ℕ) (imm : ℤ) → load_op_at funct3 ≡ Some op → funct3 < 8 → rd < 32
+    → rs1 < 32 → IsOfBits 12 imm → StandsFor (i_type 0b0000011 funct3 rd rs1 imm) (Load op rd rs1 imm)
 of_load op funct3 rd rs1 imm named small in_rd in_rs1 range = record {
   fit = search (arith, ints);
   meaning = ap (option_map (λ o. Load o rd rs1 (i_imm (i_type 0b0000011 funct3 rd rs1 imm)))) named ∙ ap (λ d. Some (Load op rd rs1 d)) (i_imm-i_type 0b0000011 funct3 rd rs1 imm range);
 }
 
-load_stands : (op : LoadOp) (rd rs1 : ℕ) (imm : ℤ) → IsInRange (Load op rd rs1 imm) → StandsFor (load_type op rd rs1 imm) (Load op rd rs1 imm)
+load_stands : (op : LoadOp) (rd rs1 : ℕ) (imm : ℤ) → IsInRange (Load op rd rs1 imm)
+    → StandsFor (load_type op rd rs1 imm) (Load op rd rs1 imm)
 load_stands Lb rd rs1 imm r = of_load Lb 0b000 rd rs1 imm refl (lit< tt) r.0 r.1 r.2
 load_stands Lh rd rs1 imm r = of_load Lh 0b001 rd rs1 imm refl (lit< tt) r.0 r.1 r.2
 load_stands Lw rd rs1 imm r = of_load Lw 0b010 rd rs1 imm refl (lit< tt) r.0 r.1 r.2
 load_stands Lbu rd rs1 imm r = of_load Lbu 0b100 rd rs1 imm refl (lit< tt) r.0 r.1 r.2
 load_stands Lhu rd rs1 imm r = of_load Lhu 0b101 rd rs1 imm refl (lit< tt) r.0 r.1 r.2
 
-of_store : (op : StoreOp) (funct3 rs1 rs2 : ℕ) (imm : ℤ) → store_op_at funct3 ≡ Some op → funct3 < 8 → rs1 < 32 → rs2 < 32 → IsOfBits 12 imm → StandsFor (s_type 0b0100011 funct3 rs1 rs2 imm) (Store op rs1 rs2 imm)
+of_store : (op : StoreOp) (funct3 rs1 rs2 : ℕ) (imm : ℤ) → store_op_at funct3 ≡ Some op → funct3 < 8 → rs1 < 32
+    → rs2 < 32 → IsOfBits 12 imm → StandsFor (s_type 0b0100011 funct3 rs1 rs2 imm) (Store op rs1 rs2 imm)
 of_store op funct3 rs1 rs2 imm named small in_rs1 in_rs2 range = record {
   fit = search (arith, ints);
   meaning = ap (option_map (λ o. Store o rs1 rs2 (s_imm (s_type 0b0100011 funct3 rs1 rs2 imm)))) named ∙ ap (λ d. Some (Store op rs1 rs2 d)) (s_imm-s_type 0b0100011 funct3 rs1 rs2 imm range);
 }
 
-store_stands : (op : StoreOp) (rs1 rs2 : ℕ) (imm : ℤ) → IsInRange (Store op rs1 rs2 imm) → StandsFor (store_type op rs1 rs2 imm) (Store op rs1 rs2 imm)
+store_stands : (op : StoreOp) (rs1 rs2 : ℕ) (imm : ℤ) → IsInRange (Store op rs1 rs2 imm)
+    → StandsFor (store_type op rs1 rs2 imm) (Store op rs1 rs2 imm)
 store_stands Sb rs1 rs2 imm r = of_store Sb 0b000 rs1 rs2 imm refl (lit< tt) r.0 r.1 r.2
 store_stands Sh rs1 rs2 imm r = of_store Sh 0b001 rs1 rs2 imm refl (lit< tt) r.0 r.1 r.2
 store_stands Sw rs1 rs2 imm r = of_store Sw 0b010 rs1 rs2 imm refl (lit< tt) r.0 r.1 r.2
 
-of_imm : (op : ImmOp) (funct3 rd rs1 : ℕ) (imm : ℤ) → (funct3 == 0b001 || funct3 == 0b101) ≡ false → imm_op_at funct3 ≡ Some op → funct3 < 8 → rd < 32 → rs1 < 32 → IsOfBits 12 imm → StandsFor (i_type 0b0010011 funct3 rd rs1 imm) (OpImm op rd rs1 imm)
+of_imm : (op : ImmOp) (funct3 rd rs1 : ℕ) (imm : ℤ) → (funct3 == 0b001 || funct3 == 0b101) ≡ false
+    → imm_op_at funct3 ≡ Some op → funct3 < 8 → rd < 32 → rs1 < 32 → IsOfBits 12 imm
+    → StandsFor (i_type 0b0010011 funct3 rd rs1 imm) (OpImm op rd rs1 imm)
 of_imm op funct3 rd rs1 imm other named small in_rd in_rs1 range = record {
   fit = search (arith, ints);
   meaning = rw other (ap (option_map (λ o. OpImm o rd rs1 (i_imm (i_type 0b0010011 funct3 rd rs1 imm)))) named ∙ ap (λ d. Some (OpImm op rd rs1 d)) (i_imm-i_type 0b0010011 funct3 rd rs1 imm range));
 }
 
-of_shift : (op : ImmOp) (funct3 funct7 rd rs1 : ℕ) (imm : ℤ) → (funct3 == 0b001 || funct3 == 0b101) ≡ true → shift_op_at funct3 funct7 ≡ Some op → funct3 < 8 → funct7 < 128 → rd < 32 → rs1 < 32 → IsShift imm → StandsFor (shift_type 0b0010011 funct3 funct7 rd rs1 imm) (OpImm op rd rs1 imm)
+of_shift : (op : ImmOp) (funct3 funct7 rd rs1 : ℕ) (imm : ℤ) → (funct3 == 0b001 || funct3 == 0b101) ≡ true
+    → shift_op_at funct3 funct7 ≡ Some op → funct3 < 8 → funct7 < 128 → rd < 32 → rs1 < 32 → IsShift imm
+    → StandsFor (shift_type 0b0010011 funct3 funct7 rd rs1 imm) (OpImm op rd rs1 imm)
 of_shift op funct3 funct7 rd rs1 imm shift named small small7 in_rd in_rs1 range =
     let back : pos (word_of imm) ≡ imm = grind (arith, ints) in
     record {
@@ -101,7 +113,8 @@ of_shift op funct3 funct7 rd rs1 imm shift named small small7 in_rd in_rs1 range
       meaning = rw shift (ap (option_map (λ o. OpImm o rd rs1 (pos (word_of imm)))) named ∙ ap (λ d. Some (OpImm op rd rs1 d)) back);
     }
 
-imm_stands : (op : ImmOp) (rd rs1 : ℕ) (imm : ℤ) → IsInRange (OpImm op rd rs1 imm) → StandsFor (imm_type op rd rs1 imm) (OpImm op rd rs1 imm)
+imm_stands : (op : ImmOp) (rd rs1 : ℕ) (imm : ℤ) → IsInRange (OpImm op rd rs1 imm)
+    → StandsFor (imm_type op rd rs1 imm) (OpImm op rd rs1 imm)
 imm_stands Addi rd rs1 imm r = of_imm Addi 0b000 rd rs1 imm refl refl (lit< tt) r.0 r.1 r.2
 imm_stands Slti rd rs1 imm r = of_imm Slti 0b010 rd rs1 imm refl refl (lit< tt) r.0 r.1 r.2
 imm_stands Sltiu rd rs1 imm r = of_imm Sltiu 0b011 rd rs1 imm refl refl (lit< tt) r.0 r.1 r.2
@@ -112,13 +125,15 @@ imm_stands Slli rd rs1 imm r = of_shift Slli 0b001 0b0000000 rd rs1 imm refl ref
 imm_stands Srli rd rs1 imm r = of_shift Srli 0b101 0b0000000 rd rs1 imm refl refl (lit< tt) (lit< tt) r.0 r.1 r.2
 imm_stands Srai rd rs1 imm r = of_shift Srai 0b101 0b0100000 rd rs1 imm refl refl (lit< tt) (lit< tt) r.0 r.1 r.2
 
-of_reg : (op : RegOp) (funct3 funct7 rd rs1 rs2 : ℕ) → reg_op_at funct3 funct7 ≡ Some op → funct3 < 8 → funct7 < 128 → rd < 32 → rs1 < 32 → rs2 < 32 → StandsFor (r_type 0b0110011 funct3 funct7 rd rs1 rs2) (Op op rd rs1 rs2)
+of_reg : (op : RegOp) (funct3 funct7 rd rs1 rs2 : ℕ) → reg_op_at funct3 funct7 ≡ Some op → funct3 < 8 → funct7 < 128
+    → rd < 32 → rs1 < 32 → rs2 < 32 → StandsFor (r_type 0b0110011 funct3 funct7 rd rs1 rs2) (Op op rd rs1 rs2)
 of_reg op funct3 funct7 rd rs1 rs2 named small small7 in_rd in_rs1 in_rs2 = record {
   fit = search arith;
   meaning = ap (option_map (λ o. Op o rd rs1 rs2)) named;
 }
 
-reg_stands : (op : RegOp) (rd rs1 rs2 : ℕ) → IsInRange (Op op rd rs1 rs2) → StandsFor (reg_type op rd rs1 rs2) (Op op rd rs1 rs2)
+reg_stands : (op : RegOp) (rd rs1 rs2 : ℕ) → IsInRange (Op op rd rs1 rs2) → StandsFor (reg_type op rd rs1 rs2)
+    (Op op rd rs1 rs2)
 reg_stands Add rd rs1 rs2 r = of_reg Add 0b000 0b0000000 rd rs1 rs2 refl (lit< tt) (lit< tt) r.0 r.1 r.2
 reg_stands Sub rd rs1 rs2 r = of_reg Sub 0b000 0b0100000 rd rs1 rs2 refl (lit< tt) (lit< tt) r.0 r.1 r.2
 reg_stands Sll rd rs1 rs2 r = of_reg Sll 0b001 0b0000000 rd rs1 rs2 refl (lit< tt) (lit< tt) r.0 r.1 r.2

@@ -7,6 +7,7 @@ use Rattle.rv_core.specs.Registers.{Registers}
 use Rattle.rv_core.specs.Effect.{effect_of}
 
 -- a step that doesn't end with the next instruction changes no register
-pub effect_of-regs_kept : (r : Registers) (i : Instr) (answer : Answer) → (effect_of r i answer).outcome ≢ Next → (effect_of r i answer).regs ≡ r
+pub registers_stay : (r : Registers) (i : Instr) (answer : Answer) → (effect_of r i answer).outcome ≢ Next
+    → (effect_of r i answer).regs ≡ r
 unfolding effect_of
-effect_of-regs_kept r i answer other = grind arith
+registers_stay r i answer other = grind arith

@@ -1,5 +1,5 @@
 -- Accesses of a bus: how much each load and store moves, and what a bus may answer.
-use Rattle.std.specs.Prelude.{◌≡◌, ◌*◌, ◌^◌, ◌<◌}
+use Rattle.std.specs.Prelude.{◌≡◌, ℕ, ◌*◌, ◌^◌, ◌<◌, Option}
 use Rattle.soc_base.specs.declared.region.Width.{Width}
 use Rattle.soc_base.specs.declared.region.Width.TheVariants.{Byte, Half, Word}
 use Rattle.soc_base.specs.Widths.{width_bytes}
@@ -10,6 +10,7 @@ use Rattle.rv_core.specs.declared.instr.StoreOp.TheVariants.{Sb, Sh, Sw}
 use Rattle.rv_core.specs.declared.bus.Answer.{Answer}
 use Rattle.rv_core.specs.declared.bus.Answer.TheVariants.{Done, Stall, Fault}
 
+-- how much a load reads
 abbrev pub load_width : LoadOp → Width
 load_width Lb = Byte
 load_width Lh = Half
@@ -17,6 +18,7 @@ load_width Lw = Word
 load_width Lbu = Byte
 load_width Lhu = Half
 
+-- how much a store writes
 abbrev pub store_width : StoreOp → Width
 store_width Sb = Byte
 store_width Sh = Half
@@ -39,3 +41,10 @@ abbrev pub IsKeptUnlessDone : {S : Type 0} → Answer → S → S → Type 0
 IsKeptUnlessDone (Done value) old new = Unit {0}
 IsKeptUnlessDone Stall old new = new ≡ old
 IsKeptUnlessDone (Fault cause) old new = new ≡ old
+
+-- how a bus answers, by what it holds: the word at an address, and what a load or a store answers and
+-- leaves
+pub record BusMeaning (S : Type 0) : Type 0 where
+  pub fetch : S → ℕ → Option ℕ
+  pub load : S → ℕ → Width → Answer × S
+  pub store : S → ℕ → Width → ℕ → Answer × S

@@ -13,9 +13,11 @@ use Rattle.rv_core.specs.declared.instr.ImmOp.TheVariants.{Addi, Slti, Sltiu, Xo
 use Rattle.rv_core.specs.declared.instr.RegOp.{RegOp}
 use Rattle.rv_core.specs.declared.instr.RegOp.TheVariants.{Add, Sub, Sll, Slt, Sltu, Xor, Srl, Sra, Or, And, Mul, Mulh, Mulhsu, Mulhu, Div, Divu, Rem, Remu}
 
+-- the number that a word stands for in two's complement
 abbrev pub signed : ℕ → ℤ
 signed word = cast_signed w32 word
 
+-- the word that stands for a number
 abbrev pub word_of : ℤ → ℕ
 word_of number = cast_unsigned w32 number
 
@@ -23,9 +25,11 @@ word_of number = cast_unsigned w32 number
 abbrev pub wrapped_sum : ℕ → ℕ → ℕ
 wrapped_sum a b = (a + b) % 2 ^ 32
 
+-- wraps as the sum does: 0 less 1 is 0xffffffff
 abbrev pub wrapped_difference : ℕ → ℕ → ℕ
 wrapped_difference a b = (a + (2 ^ 32 - b)) % 2 ^ 32
 
+-- whether a word is below another, as signed numbers
 abbrev pub is_less_signed : ℕ → ℕ → Bool
 is_less_signed a b = int_lt (signed a) (signed b)
 
@@ -37,6 +41,7 @@ flag_of b = if b then 1 else 0
 abbrev pub shifted_left : ℕ → ℕ → ℕ
 shifted_left a b = a * 2 ^ (b % 32) % 2 ^ 32
 
+-- zeros come in from the left
 abbrev pub shifted_right : ℕ → ℕ → ℕ
 shifted_right a b = a / 2 ^ (b % 32)
 
@@ -48,6 +53,7 @@ shifted_right_signed a b = word_of (int_shr (signed a) (b % 32))
 abbrev pub high_product_signed : ℕ → ℕ → ℕ
 high_product_signed a b = cast_unsigned w64 (signed a *ℤ signed b) / 2 ^ 32
 
+-- the first is signed and the second is not
 abbrev pub high_product_mixed : ℕ → ℕ → ℕ
 high_product_mixed a b = cast_unsigned w64 (signed a *ℤ pos b) / 2 ^ 32
 
@@ -56,12 +62,15 @@ high_product_mixed a b = cast_unsigned w64 (signed a *ℤ pos b) / 2 ^ 32
 abbrev pub quotient_signed : ℕ → ℕ → ℕ
 quotient_signed a b = if b == 0 then 2 ^ 32 - 1 else word_of (int_div (signed a) (signed b))
 
+-- of unsigned numbers; by 0 all bits are set
 abbrev pub quotient_unsigned : ℕ → ℕ → ℕ
 quotient_unsigned a b = if b == 0 then 2 ^ 32 - 1 else a / b
 
+-- of signed numbers, with the sign of the dividend; by 0 it is the dividend
 abbrev pub remainder_signed : ℕ → ℕ → ℕ
 remainder_signed a b = if b == 0 then a else word_of (int_rem (signed a) (signed b))
 
+-- of unsigned numbers; by 0 it is the dividend
 abbrev pub remainder_unsigned : ℕ → ℕ → ℕ
 remainder_unsigned a b = if b == 0 then a else a % b
 

@@ -27,6 +27,7 @@ branch_op_at funct3 =
     else if funct3 == 0b111 then Some Bgeu
     else None
 
+-- at the opcode for loads
 abbrev pub load_op_at : ℕ → Option LoadOp
 load_op_at funct3 =
     if funct3 == 0b000 then Some Lb
@@ -36,6 +37,7 @@ load_op_at funct3 =
     else if funct3 == 0b101 then Some Lhu
     else None
 
+-- at the opcode for stores
 abbrev pub store_op_at : ℕ → Option StoreOp
 store_op_at funct3 =
     if funct3 == 0b000 then Some Sb
@@ -56,12 +58,14 @@ base_op_at funct3 =
     else if funct3 == 0b111 then Some And
     else None
 
+-- where funct7 is 0100000
 abbrev pub other_op_at : ℕ → Option RegOp
 other_op_at funct3 =
     if funct3 == 0b000 then Some Sub
     else if funct3 == 0b101 then Some Sra
     else None
 
+-- where funct7 is 0000001
 abbrev pub product_op_at : ℕ → Option RegOp
 product_op_at funct3 =
     if funct3 == 0b000 then Some Mul
@@ -74,6 +78,7 @@ product_op_at funct3 =
     else if funct3 == 0b111 then Some Remu
     else None
 
+-- the operation on two registers that a funct3 and a funct7 name
 abbrev pub reg_op_at : ℕ → ℕ → Option RegOp
 reg_op_at funct3 funct7 =
     if funct7 == 0b0000000 then base_op_at funct3
@@ -96,15 +101,19 @@ imm_op_at funct3 =
 abbrev pub shift_op_at : ℕ → ℕ → Option ImmOp
 shift_op_at funct3 funct7 =
     if funct3 == 0b001 then (if funct7 == 0b0000000 then Some Slli else None)
-    else if funct3 == 0b101 then (if funct7 == 0b0000000 then Some Srli else if funct7 == 0b0100000 then Some Srai else None)
+    else if funct3 == 0b101 then
+    (if funct7 == 0b0000000 then Some Srli else if funct7 == 0b0100000 then Some Srai else None)
     else None
 
+-- an operation whose constant is a shift
 abbrev pub decoded_shift : Fields → Option Instr
 decoded_shift f = option_map (λ op. OpImm op f.rd f.rs1 (pos f.rs2)) (shift_op_at f.funct3 f.funct7)
 
+-- an operation whose constant has 12 bits
 abbrev pub decoded_constant : Fields → Option Instr
 decoded_constant f = option_map (λ op. OpImm op f.rd f.rs1 (i_imm f)) (imm_op_at f.funct3)
 
+-- an operation on a register and a constant
 abbrev pub decoded_imm : Fields → Option Instr
 decoded_imm f = if f.funct3 == 0b001 || f.funct3 == 0b101 then decoded_shift f else decoded_constant f
 

@@ -13,7 +13,7 @@ use Rattle.rv_core.specs.declared.execution.Outcome.{Outcome}
 use Rattle.rv_core.specs.declared.execution.Outcome.TheVariants.{Next, Stall, Halt, Fault}
 use Rattle.rv_core.specs.Registers.{Registers, register_at, with_register}
 use Rattle.rv_core.specs.Arithmetic.{word_of, wrapped_sum, reg_value, imm_value, is_taken, loaded_value, stored_value}
-use Rattle.rv_core.specs.Access.{load_width, store_width}
+use Rattle.rv_core.specs.Access.{BusMeaning, load_width, store_width}
 
 -- the access that an instruction asks for
 pub data Request : Type 0 where
@@ -29,17 +29,27 @@ address_of r rs1 imm = wrapped_sum (register_at r rs1) (word_of imm)
 abbrev pub even_address_of : Registers → ℕ → ℤ → ℕ
 even_address_of r rs1 imm = address_of r rs1 imm / 2 * 2
 
+-- the access of an instruction, by the registers before it
 unfoldable pub request_of : Registers → Instr → Request
 request_of r (Load op rd rs1 imm) = LoadFrom (address_of r rs1 imm) (load_width op)
-request_of r (Store op rs1 rs2 imm) = StoreTo (address_of r rs1 imm) (store_width op) (stored_value op (register_at r rs2))
-request_of r _ = Nothing
+request_of r (Store op rs1 rs2 imm) =
+    StoreTo (address_of r rs1 imm) (store_width op) (stored_value op (register_at r rs2))
+request_of r (Lui rd imm) = Nothing
+request_of r (Auipc rd imm) = Nothing
+request_of r (Jal rd imm) = Nothing
+request_of r (Jalr rd rs1 imm) = Nothing
+request_of r (Branch op rs1 rs2 imm) = Nothing
+request_of r (OpImm op rd rs1 imm) = Nothing
+request_of r (Op op rd rs1 rs2) = Nothing
+request_of r (Fence rest) = Nothing
+request_of r Ecall = Nothing
+request_of r Ebreak = Nothing
 
--- what a bus answers to a request, and its state after it: `load` and `store` say what it does, and
--- no request is done at once
-abbrev pub ask : {S : Type 0} → (S → ℕ → Width → Answer × S) → (S → ℕ → Width → ℕ → Answer × S) → Request → S → Answer × S
-ask load store Nothing s = (Done 0, s)
-ask load store (LoadFrom addr width) s = load s addr width
-ask load store (StoreTo addr width value) s = store s addr width value
+-- what a bus answers to a request, and its state after it; no request is done at once
+abbrev pub ask : {S : Type 0} → BusMeaning S → Request → S → Answer × S
+ask bus Nothing s = (Done 0, s)
+ask bus (LoadFrom addr width) s = bus.load s addr width
+ask bus (StoreTo addr width value) s = bus.store s addr width value
 
 -- how a step ends, and the registers after it
 pub record Effect : Type 0 where
@@ -60,7 +70,8 @@ set r rd value = next (with_register r rd value)
 
 -- to a target, which is to be a multiple of 4
 abbrev pub jump : Registers → ℕ → Effect
-jump r target = if target % 4 == 0 then record { outcome = Next; regs = record r { pc = target } } else ends r (Fault Target)
+jump r target =
+    if target % 4 == 0 then record { outcome = Next; regs = record r { pc = target } } else ends r (Fault Target)
 
 -- the same, and rd takes the address of the next instruction
 abbrev pub link : Registers → ℕ → ℕ → Effect
@@ -69,14 +80,17 @@ link r rd target =
     then record { outcome = Next; regs = record (with_register r rd (wrapped_sum r.pc 4)) { pc = target } }
     else ends r (Fault Target)
 
+-- to a target where the branch is taken, else to the next instruction
 abbrev pub branch : Registers → Bool → ℕ → Effect
 branch r taken target = if taken then jump r target else next r
 
+-- after a load: rd takes the value, where the bus gave one
 abbrev pub after_load : Registers → LoadOp → ℕ → Answer → Effect
 after_load r op rd (Done value) = set r rd (loaded_value op value)
 after_load r op rd NotNow = ends r Stall
 after_load r op rd (Refused cause) = ends r (Fault cause)
 
+-- after a store
 abbrev pub after_store : Registers → Answer → Effect
 after_store r (Done value) = next r
 after_store r NotNow = ends r Stall
@@ -97,3 +111,16 @@ effect_of r (Op op rd rs1 rs2) answer = set r rd (reg_value op (register_at r rs
 effect_of r (Fence rest) answer = next r
 effect_of r Ecall answer = ends r (Halt (register_at r 10))
 effect_of r Ebreak answer = ends r (Fault Break)
+
+-- how a step ends on a bus, the registers after it, and what the bus then holds
+pub record StepEnd (S : Type 0) : Type 0 where
+  pub outcome : Outcome
+  pub regs : Registers
+  pub bus : S
+
+-- one step: the instruction's request, the bus's answer, and the effect by it
+abbrev pub step_of : {S : Type 0} → BusMeaning S → Registers → S → Instr → StepEnd S
+step_of bus r s instr =
+    let asked = ask bus (request_of r instr) s in
+    let effect = effect_of r instr asked.0 in
+    record { outcome = effect.outcome; regs = effect.regs; bus = asked.1 }

@@ -24,6 +24,7 @@ pack f = f.opcode + f.rd * 2 ^ 7 + f.funct3 * 2 ^ 12 + f.rs1 * 2 ^ 15 + f.rs2 * 
 
 -- ---- the fields of an instruction, by its format; an immediate is taken apart as its word
 
+-- two source registers, and no immediate
 abbrev pub r_type : ℕ → ℕ → ℕ → ℕ → ℕ → ℕ → Fields
 r_type opcode funct3 funct7 rd rs1 rs2 =
     record { opcode = opcode; rd = rd; funct3 = funct3; rs1 = rs1; rs2 = rs2; funct7 = funct7 }
@@ -63,7 +64,8 @@ j_type opcode rd imm =
 
 -- FENCE: the opcode, and all else from `rest`
 abbrev pub fence_type : ℕ → ℕ → ℕ → Fields
-fence_type opcode funct3 rest = r_type opcode funct3 (bits rest 31 25) (bits rest 11 7) (bits rest 19 15) (bits rest 24 20)
+fence_type opcode funct3 rest =
+    r_type opcode funct3 (bits rest 31 25) (bits rest 11 7) (bits rest 19 15) (bits rest 24 20)
 
 -- ---- the immediates of fields
 
@@ -71,24 +73,30 @@ fence_type opcode funct3 rest = r_type opcode funct3 (bits rest 31 25) (bits res
 abbrev pub signed_of_bits : ℕ → ℕ → ℤ
 signed_of_bits size n = if nat_lt n (2 ^ (size - 1)) then pos n else (pos n -ℤ pos (2 ^ size))
 
+-- of format I
 abbrev pub i_imm : Fields → ℤ
 i_imm f = signed_of_bits 12 (f.funct7 * 2 ^ 5 + f.rs2)
 
+-- of format S
 abbrev pub s_imm : Fields → ℤ
 s_imm f = signed_of_bits 12 (f.funct7 * 2 ^ 5 + f.rd)
 
+-- of format B, in bytes
 abbrev pub b_imm : Fields → ℤ
 b_imm f = signed_of_bits 13
     (bits f.funct7 6 6 * 2 ^ 12 + bits f.rd 0 0 * 2 ^ 11 + bits f.funct7 5 0 * 2 ^ 5 + bits f.rd 4 1 * 2)
 
+-- of format U, as a word whose low 12 bits are 0
 abbrev pub u_imm : Fields → ℕ
 u_imm f = f.funct7 * 2 ^ 25 + f.rs2 * 2 ^ 20 + f.rs1 * 2 ^ 15 + f.funct3 * 2 ^ 12
 
+-- of format J, in bytes
 abbrev pub j_imm : Fields → ℤ
 j_imm f = signed_of_bits 21
     (bits f.funct7 6 6 * 2 ^ 20 + f.rs1 * 2 ^ 15 + f.funct3 * 2 ^ 12 + bits f.rs2 0 0 * 2 ^ 11
     + bits f.funct7 5 0 * 2 ^ 5 + bits f.rs2 4 1 * 2)
 
+-- a FENCE's word with 0 in place of its opcode and funct3
 abbrev pub fence_rest : Fields → ℕ
 fence_rest f = f.rd * 2 ^ 7 + f.rs1 * 2 ^ 15 + f.rs2 * 2 ^ 20 + f.funct7 * 2 ^ 25
 

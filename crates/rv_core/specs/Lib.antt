@@ -5,3 +5,4 @@ pub mod Table
 pub mod Decoding
 pub mod Access
 pub mod Effect
+pub mod inner

@@ -1,6 +1,6 @@
 -- The instructions of RV32IM and their words, to be laid beside the "Instruction Set Listings" of the
 -- RISC-V Unprivileged ISA: opcode, funct3, funct7, then operands.
-use Rattle.std.specs.Prelude.{◌≡◌, ℕ, ◌-◌, ◌%◌, ◌^◌, ◌<◌, ℤ, pos, neg_ℤ, ◌≤ℤ◌, ◌<ℤ◌, Option, IfSome}
+use Rattle.std.specs.Prelude.{◌≡◌, ℕ, ◌-◌, ◌%◌, ◌^◌, ◌<◌, ℤ, pos, neg_ℤ, ◌≤ℤ◌, ◌<ℤ◌}
 use Rattle.rv_core.specs.declared.fields.Fields.{Fields}
 use Rattle.rv_core.specs.declared.instr.Instr.{Instr}
 use Rattle.rv_core.specs.declared.instr.Instr.TheVariants.{Lui, Auipc, Jal, Jalr, Branch, Load, Store, OpImm, Op, Fence, Ecall, Ebreak}
@@ -92,6 +92,7 @@ fields_of Ebreak = r_type 0b1110011 0b000 0b0000000 0 0 1
 unfoldable pub encode_of : Instr → ℕ
 encode_of instr = pack (fields_of instr)
 
+-- the number of a register
 abbrev pub IsRegister : ℕ → Type 0
 IsRegister n = n < 32
 
@@ -99,6 +100,7 @@ IsRegister n = n < 32
 abbrev pub IsOfBits : ℕ → ℤ → Type 0
 IsOfBits size imm = (neg_ℤ (pos (2 ^ (size - 1))) ≤ℤ imm) × (imm <ℤ pos (2 ^ (size - 1)))
 
+-- a distance of whole halfwords
 abbrev pub IsEven : ℤ → Type 0
 IsEven imm = word_of imm % 2 ≡ 0
 
@@ -110,6 +112,7 @@ IsUpper imm = (imm < 2 ^ 32) × (bits imm 11 0 ≡ 0)
 abbrev pub IsFenceRest : ℕ → Type 0
 IsFenceRest rest = (rest < 2 ^ 32) × (bits rest 6 0 ≡ 0) × (bits rest 14 12 ≡ 0)
 
+-- the distance of a shift
 abbrev pub IsShift : ℤ → Type 0
 IsShift imm = (pos 0 ≤ℤ imm) × (imm <ℤ pos 32)
 
@@ -139,7 +142,3 @@ IsInRange (Op op rd rs1 rs2) = IsRegister rd × IsRegister rs1 × IsRegister rs2
 IsInRange (Fence rest) = IsFenceRest rest
 IsInRange Ecall = Unit {0}
 IsInRange Ebreak = Unit {0}
-
--- an instruction that was found has these fields, by the table, and is in range
-abbrev pub IsFound : Fields → Option Instr → Type 0
-IsFound f found = IfSome found (λ i. IsInRange i × (fields_of i ≡ f))

@@ -13,13 +13,11 @@ pub enum Answer {
     Fault(Cause),
 }
 
-/// What a hart reads from and writes to. An impl says by `fetch_at`, `load_at` and `store_at` what its
-/// answers are, as functions of its state; contracts of the code that runs on a bus speak of those.
+/// What a hart reads from and writes to. An impl says by `answers` what its answers are, as functions of
+/// its state; contracts of the code that runs on a bus speak of those.
 pub trait Bus {
-    ghost use Rattle.std.specs.Prelude.{ℕ, Option, IfSome, ◌≡◌, ◌<◌, ◌^◌};
-    ghost use Rattle.soc_base.specs.declared.region.Width.{Width};
-    ghost use Rattle.rv_core.specs.declared.bus.Answer.{Answer};
-    ghost use Rattle.rv_core.specs.Access.{IsLoaded, IsStored, IsKeptUnlessDone};
+    ghost use Rattle.std.specs.Prelude.{IfSome, ◌≡◌, ◌<◌, ◌^◌};
+    ghost use Rattle.rv_core.specs.Access.{BusMeaning, IsLoaded, IsStored, IsKeptUnlessDone};
 
     /// What the bus holds, as contracts see it.
     ghost State: { Type 0 };
@@ -32,29 +30,25 @@ pub trait Bus {
 
     ghost kept: { Self → Kept };
 
-    ghost fetch_at: { State → ℕ → Option ℕ };
-
-    ghost load_at: { State → ℕ → Width → Answer × State };
-
-    ghost store_at: { State → ℕ → Width → ℕ → Answer × State };
+    ghost answers: { BusMeaning State };
 
     /// Answers the instruction word at `pc`, if there is one. Changes nothing.
     fn fetch(&self, pc: u32) -> Option<u32>
-        ensures word { result ≡ fetch_at (state self.now) pc }
+        ensures word { result ≡ answers.fetch (state self.now) pc }
         ensures bound { IfSome result (λ word. word < 2 ^ 32) };
 
     /// Loads from an address, which needs not be a multiple of the width.
     fn load(&mut self, addr: u32, width: Width) -> Answer
-        ensures answer { result ≡ (load_at (state self.old) addr width).0 }
-        ensures state { state self.new ≡ (load_at (state self.old) addr width).1 }
+        ensures answer { result ≡ (answers.load (state self.old) addr width).0 }
+        ensures state { state self.new ≡ (answers.load (state self.old) addr width).1 }
         ensures bound { IsLoaded width result }
         ensures refused { IsKeptUnlessDone result (state self.old) (state self.new) }
         ensures kept { kept self.new ≡ kept self.old };
 
     /// Stores the low bytes of a value at an address, which needs not be a multiple of the width.
     fn store(&mut self, addr: u32, width: Width, value: u32) -> Answer
-        ensures answer { result ≡ (store_at (state self.old) addr width value).0 }
-        ensures state { state self.new ≡ (store_at (state self.old) addr width value).1 }
+        ensures answer { result ≡ (answers.store (state self.old) addr width value).0 }
+        ensures state { state self.new ≡ (answers.store (state self.old) addr width value).1 }
         ensures bound { IsStored result }
         ensures refused { IsKeptUnlessDone result (state self.old) (state self.new) }
         ensures kept { kept self.new ≡ kept self.old };

@@ -3,7 +3,8 @@
 
 ghost use Rattle.std.specs.Prelude.{◌≡◌, ◌≢◌, ℤ, IfSome, IfNone};
 ghost use Rattle.rv_core.specs.Formats.{b_type, i_type, s_type, r_type, shift_type, IsFields};
-ghost use Rattle.rv_core.specs.Table.{branch_type, load_type, store_type, reg_type, imm_type, encode_of, IsInRange, IsFound, IsOfBits, IsShift, IsConstant};
+ghost use Rattle.rv_core.specs.Table.{branch_type, load_type, store_type, reg_type, imm_type, encode_of, IsInRange, IsOfBits, IsShift, IsConstant};
+ghost use Rattle.rv_core.specs.inner.Found.{IsFound};
 ghost use Rattle.rv_core.specs.declared.instr.Instr.{Instr};
 ghost use Rattle.rv_core.specs.Decoding.{branch_op_at, load_op_at, store_op_at, base_op_at, product_op_at, reg_op_at, imm_op_at, shift_op_at, decoded_shift, decoded_constant, decoded, decode_of};
 

@@ -1,9 +1,9 @@
 //! One step of a hart: an instruction, its registers and a bus.
 
-ghost use Rattle.std.specs.Prelude.{◌≡◌};
+ghost use Rattle.std.specs.Prelude.{◌≡◌, ◌≢◌};
 ghost use Rattle.rv_core.specs.Access.{load_width, IsLoaded};
 ghost use Rattle.rv_core.specs.Table.{IsInRange, IsRegister};
-ghost use Rattle.rv_core.specs.Effect.{request_of, effect_of, ask, next, set, jump, link, branch, after_load, after_store};
+ghost use Rattle.rv_core.specs.Effect.{step_of, next, set, jump, link, branch, after_load, after_store};
 
 use crate::arithmetic::{
     extended, immediate_result, register_result, stored, width_of_load, width_of_store,
@@ -107,12 +107,13 @@ fn finish_store(regs: &mut Regs, answer: Answer) -> Outcome
 /// bus for at most one access. A taken branch or a jump to an address that isn't a multiple of 4 is
 /// the fault `Target`; ECALL halts with x10 as status, and EBREAK is the fault `Break`. Where the
 /// outcome isn't `Next`, no register changes.
-#[tactic(auto, unfolding(crate::specs::Effect::request_of, crate::specs::Effect::effect_of))]
+#[tactic(auto, using(crate::proofs::StepLemmas::registers_stay), unfolding(crate::specs::Effect::request_of, crate::specs::Effect::effect_of))]
 pub fn execute<B: Bus>(regs: &mut Regs, bus: &mut B, instr: Instr) -> Outcome
     requires { IsInRange instr }
-    ensures outcome { let asked = ask B.load_at B.store_at (request_of regs.old instr) (B.state bus.old) in result ≡ (effect_of regs.old instr asked.0).outcome }
-    ensures regs { let asked = ask B.load_at B.store_at (request_of regs.old instr) (B.state bus.old) in regs.new ≡ (effect_of regs.old instr asked.0).regs }
-    ensures bus { B.state bus.new ≡ (ask B.load_at B.store_at (request_of regs.old instr) (B.state bus.old)).1 }
+    ensures outcome { result ≡ (step_of B.answers regs.old (B.state bus.old) instr).outcome }
+    ensures regs { regs.new ≡ (step_of B.answers regs.old (B.state bus.old) instr).regs }
+    ensures unchanged { result ≢ Outcome.Next → regs.new ≡ regs.old }
+    ensures bus { B.state bus.new ≡ (step_of B.answers regs.old (B.state bus.old) instr).bus }
     ensures kept { B.kept bus.new ≡ B.kept bus.old }
 {
     match instr {

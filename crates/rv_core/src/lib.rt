@@ -4,8 +4,7 @@
 //! `specs/` goes by the chapters of the RISC-V Unprivileged ISA: `Registers`, `Arithmetic` (what an
 //! instruction computes), `Formats` (the fields of a word and the immediates in them), `Table` (the
 //! opcodes, as an encoder), `Decoding` (its inverse), `Access` (what a bus may answer) and `Effect`
-//! (what a step does). `proofs/RoundTrip.antt` has that decoding undoes encoding, `StepLemmas.antt` and
-//! `Validity.antt` what a step keeps.
+//! (what a step does). `proofs/RoundTrip.antt` has that decoding undoes encoding.
 #![tactic(auto)]
 
 /// What the instructions compute.

@@ -43,11 +43,17 @@ impl Bus for Scratch {
 
     ghost kept = { λ b. tt };
 
-    ghost fetch_at = { λ s pc. None };
-
-    ghost load_at = { λ s addr width. if nat_lt addr 4096 then (Done (s.0 % 2 ^ (8 * width_bytes width)), (s.0, addr)) else if nat_lt addr 8192 then (Stall, s) else (Fault Access, s) };
-
-    ghost store_at = { λ s addr width value. if nat_lt addr 4096 then (Done 0, (value, addr)) else if nat_lt addr 8192 then (Stall, s) else (Fault Access, s) };
+    ghost answers = { record {
+      fetch = λ s pc. None;
+      load = λ s addr width.
+          if nat_lt addr 4096 then (Done (s.0 % 2 ^ (8 * width_bytes width)), (s.0, addr))
+          else if nat_lt addr 8192 then (Stall, s)
+          else (Fault Access, s);
+      store = λ s addr width value.
+          if nat_lt addr 4096 then (Done 0, (value, addr))
+          else if nat_lt addr 8192 then (Stall, s)
+          else (Fault Access, s);
+    } };
 
     fn fetch(&self, _pc: u32) -> Option<u32> {
         None

@@ -3,6 +3,7 @@ pub mod Frame
 pub mod Slots
 pub mod Steps
 pub mod Twins
+pub mod Label
 pub mod Text
 pub mod Port
 pub mod Widths

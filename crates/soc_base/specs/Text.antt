@@ -10,9 +10,11 @@ hex_digit n = if nat_lt n 10 then 48 + n else 87 + n
 -- a word of 32 bits as eight lower-case hexadecimal digits, the highest first
 unfoldable pub hex_text : ℕ → List ℕ
 hex_text w =
-    hex_digit (w / 2 ^ 28 % 16) ∷ hex_digit (w / 2 ^ 24 % 16) ∷ hex_digit (w / 2 ^ 20 % 16) ∷ hex_digit (w / 2 ^ 16 % 16)
-    ∷ hex_digit (w / 2 ^ 12 % 16) ∷ hex_digit (w / 2 ^ 8 % 16) ∷ hex_digit (w / 2 ^ 4 % 16) ∷ hex_digit (w % 16) ∷ []
+    hex_digit (w / 2 ^ 28 % 16) ∷ hex_digit (w / 2 ^ 24 % 16) ∷ hex_digit (w / 2 ^ 20 % 16)
+    ∷ hex_digit (w / 2 ^ 16 % 16) ∷ hex_digit (w / 2 ^ 12 % 16) ∷ hex_digit (w / 2 ^ 8 % 16)
+    ∷ hex_digit (w / 2 ^ 4 % 16) ∷ hex_digit (w % 16) ∷ []
 
+-- the byte is no decimal digit
 abbrev pub is_no_digit : ℕ → Bool
 is_no_digit byte = nat_lt byte 48 || nat_lt 57 byte
 
@@ -24,10 +26,12 @@ value_of digits = fold (λ value digit. value * 10 + (digit - 48)) 0 digits
 abbrev pub number_within : ℕ → ℕ → Option ℕ
 number_within value limit = if nat_le value limit then Some value else None
 
+-- a value within the limit, or that it is above
 abbrev pub within_or_large : Option ℕ → Result ℕ NumFault
 within_or_large (Some value) = Ok value
 within_or_large None = Err Large
 
+-- what bytes are read as of which the first that is no digit stands at this place, if any does
 abbrev pub digits_read : Option ℕ → List ℕ → ℕ → Result ℕ NumFault
 digits_read (Some place) bytes limit = Err (Digit place)
 digits_read None bytes limit = within_or_large (number_within (value_of bytes) limit)

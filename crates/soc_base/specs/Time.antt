@@ -22,6 +22,7 @@ pub record FrameTimes : Type 0 where
   pub partition : ℕ
   pub slots : ℕ
 
+-- the cycles of an instance
 abbrev pub instance_cycles : FrameTimes → ℕ
 instance_cycles f = f.kernel + f.partition
 

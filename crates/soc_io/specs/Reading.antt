@@ -5,10 +5,6 @@ use Rattle.soc_io.specs.declared.files.FilesFault.{FilesFault}
 use Rattle.soc_io.specs.declared.files.FilesFault.TheVariants.{Absent, TooLong, Failed, NoMemory}
 use Rattle.soc_io.specs.Counts.{one_more, Rose}
 
--- the most bytes that a file has which is read, by the name that callers use
-abbrev pub file_limit : ℕ
-file_limit = MOST_FILE_BYTES
-
 -- files, each as its name and its bytes
 abbrev pub Held : Type 0
 Held = List (List ℕ × List ℕ)

@@ -12,6 +12,10 @@ pub record Tape : Type 0 where
   pub calls : ℕ
   pub faults : ℕ
 
+-- an empty sink with this room, of which the writes with these numbers fail
+abbrev pub new_tape : ℕ → List ℕ → Tape
+new_tape room fails = record { given = []; room = room; fails = fails; calls = 0; faults = 0 }
+
 -- whether the next write is one that fails
 abbrev pub tape_fails : Tape → Bool
 tape_fails t = is_among (one_more t.calls) t.fails

@@ -2,7 +2,7 @@
 
 ghost use Rattle.std.specs.Prelude.{◌≡◌, ◌≤◌, ◌+◌, ◌++◌, ◌↔◌, [], length, Some, IsTrue, IsOk, IfOk, vec_len, vec_capacity};
 ghost use Rattle.soc_io.specs.Writing.{Writes};
-ghost use Rattle.soc_io.specs.Tape.{Tape, tape_takes, tape_after};
+ghost use Rattle.soc_io.specs.Tape.{new_tape, tape_takes, tape_after};
 
 use crate::listed::is_listed;
 use crate::sink::{Sink, SinkFault};
@@ -27,7 +27,13 @@ impl Model for MemSink {
 
     ghost Value = { Tape };
 
-    ghost view = { λ m. record { given = m.bytes.items; room = m.space; fails = m.failing.items; calls = m.writes; faults = m.count } };
+    ghost view = { λ m. record {
+      given = m.bytes.items;
+      room = m.space;
+      fails = m.failing.items;
+      calls = m.writes;
+      faults = m.count;
+    } };
 
     ghost invariant = { λ m. (m.space ≤ vec_capacity m.bytes) × (vec_len m.bytes ≤ m.space) };
 }
@@ -46,7 +52,7 @@ impl MemSink {
     /// Makes an empty sink with room for `room` bytes. The writes whose numbers stand in `fails` will
     /// fail.
     pub fn new(alloc: Global, room: usize, fails: Vec<u64>) -> Result<MemSink, NoMemory>
-        ensures { IfOk result (λ sink. sink ≡ record { given = []; room = room; fails = fails.items; calls = 0; faults = 0 }) }
+        ensures { IfOk result (λ sink. sink ≡ new_tape room fails.items) }
     {
         let bytes = Vec::with_capacity(alloc, room)?;
         Ok(MemSink {
@@ -72,7 +78,8 @@ impl Sink for MemSink {
     ghost faults = { λ m. m.faults };
 
     fn write(&mut self, bytes: &[u8]) -> Result<(), SinkFault>
-        ensures answer { Writes bytes.now (Some self.old.given) self.old.faults (Some self.new.given) self.new.faults result }
+        ensures answer { Writes bytes.now (Some self.old.given) self.old.faults
+            (Some self.new.given) self.new.faults result }
         ensures ok { IsOk result ↔ IsTrue (tape_takes bytes.now self.old) }
         ensures after { self.new ≡ tape_after bytes.now self.old }
         ensures counted { self.old.faults ≤ self.new.faults }

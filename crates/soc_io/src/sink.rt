@@ -25,6 +25,7 @@ pub trait Sink {
     /// Appends bytes. After a failure a front of them was appended, maybe none, and the sink may be
     /// written again.
     fn write(&mut self, bytes: &[u8]) -> Result<(), SinkFault>
-        ensures answer { Writes bytes.now (written self.old) (faults self.old) (written self.new) (faults self.new) result }
+        ensures answer { Writes bytes.now (written self.old) (faults self.old)
+            (written self.new) (faults self.new) result }
         ensures counted { faults self.old ≤ faults self.new };
 }

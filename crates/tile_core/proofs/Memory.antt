@@ -3,7 +3,7 @@ use Rattle.std.proofs.Common.{◌≡◌, ℕ, ◌+◌, ◌*◌, ◌≤◌, List,
 use Rattle.std.proofs.lemmas.List.{take-append-drop, drop-drop}
 use Rattle.soc_base.specs.declared.region.Region.{Region}
 use Rattle.tile_memory.specs.Bytes.{IsInside, region_bytes, with_region, filled_bytes}
-use Rattle.tile_memory.proofs.Regions.{length-with_region, length-filled_bytes}
+use Rattle.tile_memory.proofs.Laws.{length-with_region, length-filled_bytes}
 
 -- a memory that is filled keeps its size
 pub filled_kept : (memory new image : List ℕ) (region : Region) → IsInside memory region → 4 * length image ≤ region.len → new ≡ with_region memory region (filled_bytes region.len image) → length new ≡ length memory

@@ -1,52 +1,40 @@
--- A tile after the turn of a resident.
-use Rattle.std.proofs.Common.{◌≡◌, ℕ, ◌<◌, List, length, get_or, slice_set, Option, Some, None, refl, sym, ap, ◌∙◌}
-use Rattle.std.specs.List.{slice_get}
-use Rattle.std.proofs.lemmas.List.{set-get_or}
-use Rattle.std.proofs.lemmas.Option.{slice_get_read}
-use Rattle.bundle_model.specs.declared.bundle.Part.{Part}
-use Rattle.bundle_model.specs.declared.world.World.{World}
-use Rattle.bundle_model.specs.World.{part_on}
-use Rattle.tile_memory.specs.Bytes.{with_region}
-use Rattle.trace_log.specs.Log.{Log}
-use Rattle.part_model.specs.Part.{PartState, part_cycle}
-use Rattle.tile_core.specs.declared.resident.Context.{Context}
-use Rattle.tile_core.specs.declared.resident.Resident.{Resident}
-use Rattle.tile_core.specs.Tile.{TileState, part_state}
-use Rattle.tile_core.specs.Slot.{after_turn, after_run, with_state}
+-- What a slot does to a grant: it begins in the slot, or ends in it, or stays as it is.
+use Rattle.std.proofs.Common.{◌≡◌, ℕ, ◌+◌, ◌==◌, ◌&&◌, Bool, true, false, nat_lt, Option, Some, None, refl, arith}
+use Rattle.std.specs.Option.{option_map_or}
+use Rattle.std.proofs.lemmas.Bool.{false≢true}
+use Rattle.std.proofs.lemmas.Bool.Decides.{nat_tests}
+use Rattle.bundle_model.specs.declared.world.Grant.{Grant}
+use Rattle.bundle_model.specs.Grants.{lasts_to, stands_at}
+use Rattle.tile_core.specs.Slot.{ends_in, begins_in}
 
--- nothing changes
-run_stays : (world : World) (cycle : ℕ) (tile : TileState) (place : ℕ) (resident : Resident) (part : Option Part) → resident.context ≡ None → after_run world cycle tile place resident part resident.context ≡ tile
-run_stays world cycle tile place resident None absent = refl
-run_stays world cycle tile place resident (Some part) absent = ap (after_run world cycle tile place resident (Some part)) absent
+ends_stood : (slot start : ℕ) (end : Option ℕ) → option_map_or (λ e. e == slot && nat_lt start e) end false ≡ true → (nat_lt start slot && lasts_to slot end) ≡ true
+ends_stood slot start None ends = absurd (false≢true ends)
+ends_stood slot start (Some end) ends = grind (arith, nat_tests)
 
-same_tile : (tile : TileState) (place : ℕ) (resident : Resident) → resident ≡ get_or tile.residents place resident → record tile { residents = slice_set tile.residents place resident } ≡ tile
-same_tile tile place resident read =
-    ap (λ (residents : List Resident). record tile { residents = residents }) (ap (slice_set tile.residents place) read ∙ set-get_or tile.residents place resident)
+-- a grant that ends in a slot stood at its beginning
+pub ended_stood : (slot : ℕ) (grant : Grant) → ends_in slot grant ≡ true → stands_at slot grant ≡ true
+ended_stood slot grant ends = ends_stood slot grant.start grant.end ends
 
-found_at : (tile : TileState) (place : ℕ) (resident : Resident) → place < length tile.residents → resident ≡ get_or tile.residents place resident → slice_get tile.residents place ≡ Some resident
-found_at tile place resident inside read = slice_get_read tile.residents (length tile.residents) place resident refl inside read
+begins_after : (slot start : ℕ) (end : Option ℕ) → (start == slot && option_map_or (λ e. nat_lt slot e) end true) ≡ true → (nat_lt start (slot + 1) && lasts_to (slot + 1) end) ≡ true
+begins_after slot start None begins = grind (arith, nat_tests)
+begins_after slot start (Some end) begins = grind (arith, nat_tests)
 
--- a resident without a part on the tile has no turn
-pub turn_without_part : (world : World) (cycle : ℕ) (tile : TileState) (place : ℕ) (resident : Resident) → place < length tile.residents → resident ≡ get_or tile.residents place resident → part_on world tile.number resident.bundle ≡ None → record tile { residents = slice_set tile.residents place resident } ≡ after_turn world cycle tile place (slice_get tile.residents place)
-turn_without_part world cycle tile place resident inside read none =
-    same_tile tile place resident read
-    ∙ sym (ap (λ part. after_run world cycle tile place resident part resident.context) none)
-    ∙ sym (ap (after_turn world cycle tile place) (found_at tile place resident inside read))
+-- one that begins in it stands after it
+pub begun_stands : (slot : ℕ) (grant : Grant) → begins_in slot grant ≡ true → stands_at (slot + 1) grant ≡ true
+begun_stands slot grant begins = begins_after slot grant.start grant.end begins
 
--- nor has one that isn't installed
-pub turn_without_context : (world : World) (cycle : ℕ) (tile : TileState) (place : ℕ) (resident : Resident) → place < length tile.residents → resident ≡ get_or tile.residents place resident → resident.context ≡ None → record tile { residents = slice_set tile.residents place resident } ≡ after_turn world cycle tile place (slice_get tile.residents place)
-turn_without_context world cycle tile place resident inside read none =
-    same_tile tile place resident read
-    ∙ sym (run_stays world cycle tile place resident (part_on world tile.number resident.bundle) none)
-    ∙ sym (ap (after_turn world cycle tile place) (found_at tile place resident inside read))
+begins_before : (slot start : ℕ) (end : Option ℕ) → (start == slot && option_map_or (λ e. nat_lt slot e) end true) ≡ true → (nat_lt start slot && lasts_to slot end) ≡ false
+begins_before slot start None begins = grind (arith, nat_tests)
+begins_before slot start (Some end) begins = grind (arith, nat_tests)
 
--- an installed part comes to the state that its cycle leaves
-pub turn_with_part : (world : World) (cycle : ℕ) (tile : TileState) (place : ℕ) (resident : Resident) (part : Part) (context next : Context) (memory : List ℕ) (log : Log) (state : PartState) → place < length tile.residents → resident ≡ get_or tile.residents place resident → part_on world tile.number resident.bundle ≡ Some part → resident.context ≡ Some context → state ≡ part_cycle world.platform.costs (record { tile = part.tile; kinds = part.kinds }) cycle (part_state tile.memory part context resident.log) → memory ≡ with_region tile.memory part.region state.bytes → next ≡ record context { regs = state.regs; left = state.left } → log ≡ state.log → record tile { memory = memory; residents = slice_set tile.residents place (record resident { context = Some next; log = log }) } ≡ after_turn world cycle tile place (slice_get tile.residents place)
-turn_with_part world cycle tile place resident part context next memory log state inside read here installed is bytes regs logged =
-    ap (λ (m : List ℕ). record tile { memory = m; residents = slice_set tile.residents place (record resident { context = Some next; log = log }) }) bytes
-    ∙ ap (λ (n : Context). record tile { memory = with_region tile.memory part.region state.bytes; residents = slice_set tile.residents place (record resident { context = Some n; log = log }) }) regs
-    ∙ ap (λ (l : Log). record tile { memory = with_region tile.memory part.region state.bytes; residents = slice_set tile.residents place (record resident { context = Some (record context { regs = state.regs; left = state.left }); log = l }) }) logged
-    ∙ ap (with_state tile place resident part context) is
-    ∙ sym (ap (after_run world cycle tile place resident (Some part)) installed)
-    ∙ sym (ap (λ (p : Option Part). after_run world cycle tile place resident p resident.context) here)
-    ∙ sym (ap (after_turn world cycle tile place) (found_at tile place resident inside read))
+-- and doesn't stand before
+pub begun_late : (slot : ℕ) (grant : Grant) → begins_in slot grant ≡ true → stands_at slot grant ≡ false
+begun_late slot grant begins = begins_before slot grant.start grant.end begins
+
+stays_after : (slot start : ℕ) (end : Option ℕ) → (nat_lt start slot && lasts_to slot end) ≡ true → option_map_or (λ e. e == slot && nat_lt start e) end false ≡ false → (nat_lt start (slot + 1) && lasts_to (slot + 1) end) ≡ true
+stays_after slot start None stands stays = grind (arith, nat_tests)
+stays_after slot start (Some end) stands stays = grind (arith, nat_tests)
+
+-- one that stands and doesn't end in it stands after it
+pub stays_stands : (slot : ℕ) (grant : Grant) → stands_at slot grant ≡ true → ends_in slot grant ≡ false → stands_at (slot + 1) grant ≡ true
+stays_stands slot grant stands stays = stays_after slot grant.start grant.end stands stays

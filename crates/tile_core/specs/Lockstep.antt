@@ -10,7 +10,8 @@ use Rattle.tile_core.specs.Slot.{tile_slot}
 
 -- a tile after so many slots from its beginning
 unfoldable pub tile_run : World → List LoadName → List Grant → ℕ → ℕ → TileState
-tile_run world loads grants number slots = after_steps (λ slot tile. tile_slot world grants tile) 0 slots (fresh_tile world loads number)
+tile_run world loads grants number slots =
+    after_steps (λ slot tile. tile_slot world grants tile) 0 slots (fresh_tile world loads number)
 
 -- the machine at the beginning of a slot: all tiles of the platform. There are no links between them yet.
 pub record Machine : Type 0 where
@@ -26,4 +27,5 @@ machine_slot world grants machine = record machine { tiles = map (tile_slot worl
 
 -- all tiles in step, at the beginning of a slot
 unfoldable pub lockstep : World → List LoadName → List Grant → ℕ → Machine
-lockstep world loads grants slots = after_steps (λ slot machine. machine_slot world grants machine) 0 slots (fresh_machine world loads)
+lockstep world loads grants slots =
+    after_steps (λ slot machine. machine_slot world grants machine) 0 slots (fresh_machine world loads)

@@ -1,64 +1,111 @@
--- A tile between two slots.
-use Rattle.std.specs.Prelude.{ℕ, List, find, option_map, replicate, Option, Some, None}
-use Rattle.std.specs.List.{filter_map}
-use Rattle.std.specs.Option.{option_and_then}
+-- A tile between two slots, and what can be asked of it.
+use Rattle.std.specs.Prelude.{ℕ, ◌*◌, ◌==◌, Bool, false, List, filter, get_or, if◌then◌else◌, map, option_map, position, replicate, slice_get, Option, Some, None, is_some}
+use Rattle.std.specs.Option.{option_and_then, option_map_or}
+use Rattle.soc_base.specs.Time.{offset_at}
 use Rattle.soc_base.specs.declared.label.Label.{Label}
+use Rattle.platform_model.specs.Platform.{frame_of}
 use Rattle.bundle_model.specs.declared.bundle.Part.{Part}
 use Rattle.bundle_model.specs.declared.world.World.{World}
 use Rattle.bundle_model.specs.declared.world.LoadName.{LoadName}
 use Rattle.bundle_model.specs.World.{same_label, part_on}
+use Rattle.comik.specs.declared.context.Context.{Context}
+use Rattle.comik.specs.Kernel.{KernelState, fresh_kernel, least_slot}
+use Rattle.comik.specs.Switching.{context_of}
 use Rattle.tile_memory.specs.Bytes.{region_bytes}
 use Rattle.trace_log.specs.Log.{Log, new_log}
 use Rattle.part_model.specs.Part.{PartState}
-use Rattle.tile_core.specs.declared.resident.Context.{Context}
-use Rattle.tile_core.specs.declared.resident.Resident.{Resident}
 
--- the tile's number; its next slot; the bytes of its memory; and, for each load with a part on it, in
--- the order of the loads, the part's log and, while it is installed, its context
+-- A tile: its number; its next slot; its microkernel, with the register file and the frames; the bytes of
+-- its memory; for each part number the place, among the tile's loads, of the load whose part is installed
+-- with that number; the loads of the run that have a part on the tile, in their order; and the log of each
+-- of these parts. The loads never change.
 pub record TileState : Type 0 where
   pub number : ℕ
   pub at : ℕ
+  pub kernel : KernelState
   pub memory : List ℕ
-  pub residents : List Resident
+  pub places : List (Option ℕ)
+  pub loads : List LoadName
+  pub logs : List Log
 
--- a load's part on a tile before its application is granted
-abbrev pub fresh_resident : LoadName → Part → Resident
-fresh_resident load part = record { label = load.label; bundle = load.bundle; context = None; log = new_log part.trace }
+-- the loads that have a part on a tile
+abbrev pub loads_on : World → ℕ → List LoadName → List LoadName
+loads_on world number loads = filter (λ load. is_some (part_on world number load.bundle)) loads
 
--- the loads with a part on a tile
-abbrev pub fresh_residents : World → List LoadName → ℕ → List Resident
-fresh_residents world loads number =
-    filter_map (λ load. option_map (fresh_resident load) (part_on world number load.bundle)) loads
+-- the log of a load's part on a tile before its application is granted
+abbrev pub fresh_log : World → ℕ → LoadName → Log
+fresh_log world number load = new_log (option_map_or (λ part. part.trace) (part_on world number load.bundle) 0)
 
--- a tile before its first slot: its memory is zero and nothing is installed
+-- a tile before its first slot: its memory, its register file and its frames are zero, and nothing is
+-- installed
 unfoldable pub fresh_tile : World → List LoadName → ℕ → TileState
 fresh_tile world loads number = record {
   number = number;
   at = 0;
+  kernel = fresh_kernel (frame_of world.platform);
   memory = replicate world.platform.mem_bytes 0;
-  residents = fresh_residents world loads number;
+  places = replicate world.platform.partition_slots None;
+  loads = loads_on world number loads;
+  logs = map (fresh_log world number) (loads_on world number loads);
 }
 
--- what the tile keeps of a load, if the load has a part on it
-abbrev pub resident_of : TileState → Label → Option Resident
-resident_of tile label = find (λ resident. same_label resident.label label) tile.residents
+-- the number of a part: the least of its partition slots
+abbrev pub number_of : Part → ℕ
+number_of part = least_slot part.slots
+
+-- the place of the load whose part is installed with a number
+abbrev pub place_at : TileState → ℕ → Option ℕ
+place_at tile number = get_or tile.places number None
+
+-- the log at a place
+abbrev pub log_at : TileState → ℕ → Log
+log_at tile place = get_or tile.logs place (new_log 0)
+
+-- the part, on the tile, of the load at a place
+abbrev pub load_part : World → TileState → ℕ → Option Part
+load_part world tile place =
+    option_and_then (λ load. part_on world tile.number load.bundle) (slice_get tile.loads place)
+
+-- the place of a load, if it has a part on the tile
+abbrev pub load_place : TileState → Label → Option ℕ
+load_place tile label = position (λ load. same_label load.label label) tile.loads
+
+-- the load whose part is installed with a number
+abbrev pub owner_of : TileState → ℕ → Option Label
+owner_of tile number = option_map (λ load. load.label) (option_and_then (slice_get tile.loads) (place_at tile number))
 
 -- the log of a load's part on the tile
 abbrev pub log_of : TileState → Label → Option Log
-log_of tile label = option_map (λ resident. resident.log) (resident_of tile label)
+log_of tile label = option_and_then (slice_get tile.logs) (load_place tile label)
 
--- an installed part as its application sees it: registers, the bytes of its region, its log
-abbrev pub part_state : List ℕ → Part → Context → Log → PartState
-part_state memory part context log = record { regs = context.regs; left = context.left; bytes = region_bytes memory part.region; log = log }
+-- a part as it is with these words: registers, cycles left, the bytes of its region, its log
+abbrev pub state_with : TileState → ℕ → Part → Context → PartState
+state_with tile place part words = record {
+  regs = words.regs;
+  left = words.left;
+  bytes = region_bytes tile.memory part.region;
+  log = log_at tile place;
+}
 
-abbrev pub state_with : List ℕ → Log → Option Part → Option Context → Option PartState
-state_with memory log (Some part) (Some context) = Some (part_state memory part context log)
-state_with memory log (Some part) None = None
-state_with memory log None context = None
+-- the words of an installed part at the beginning of the tile's next slot, in the register file or in its
+-- frame
+abbrev pub words_at : World → TileState → Part → Context
+words_at world tile part =
+    context_of tile.kernel (offset_at (frame_of world.platform) (tile.at * world.platform.slot_cycles)) (number_of part)
 
-abbrev pub resident_state : World → TileState → Resident → Option PartState
-resident_state world tile resident = state_with tile.memory resident.log (part_on world tile.number resident.bundle) resident.context
+-- whether the part is installed that the load at a place has on the tile
+abbrev pub is_installed : TileState → ℕ → Part → Bool
+is_installed tile place part = option_map_or (λ other. other == place) (place_at tile (number_of part)) false
+
+-- an installed part as its application sees it
+abbrev pub state_if : World → TileState → ℕ → Option Part → Option PartState
+state_if world tile place None = None
+state_if world tile place (Some part) =
+    if is_installed tile place part then Some (state_with tile place part (words_at world tile part)) else None
+
+abbrev pub state_at : World → TileState → ℕ → Option PartState
+state_at world tile place = state_if world tile place (load_part world tile place)
 
 -- the installed part of a load on the tile; none where it isn't installed
 abbrev pub state_of : World → TileState → Label → Option PartState
-state_of world tile label = option_and_then (resident_state world tile) (resident_of tile label)
+state_of world tile label = option_and_then (state_at world tile) (load_place tile label)

@@ -1,16 +1,15 @@
-//! A tile: its memory, the applications that are installed on it, and one slot of all of them.
+//! A tile: its microkernel and memory, the applications that are installed on it, and one slot of all of
+//! them.
 //!
-//! `specs/Tile` says what a tile is between two slots, `specs/Slot` what it does in one slot (grants that
-//! end, grants that begin, and its cycles one by one), `specs/Lockstep` how all tiles go on together, and
-//! `specs/Fit` which grants are installed and what a tile needs to be for a slot.
+//! `specs/Tile` says what a tile is between two slots and what it answers, `specs/Cycle` what it does in a
+//! cycle, `specs/Slot` in a slot (grants that end, grants that begin, and its cycles one by one),
+//! `specs/Lockstep` how all tiles go on together, and `specs/Fit` which grants are installed and what a
+//! tile needs for a slot. `specs/Views`, `specs/Holds` and `specs/Law` state the law: a tile holds each of
+//! its parts as that part is by itself. `specs/inner` has words of the code's own functions.
 #![tactic(auto)]
 
-/// Grants that end and begin in a slot.
-mod grants;
-/// What a tile keeps of a load.
-mod resident;
-/// Finding parts, grants and loads.
-mod residents;
+/// The law.
+mod law;
 /// A tile and its links.
 mod station;
 /// A tile, slot by slot.
@@ -20,6 +19,7 @@ mod tile;
 #[cfg(test)]
 mod tests;
 
-pub use resident::{Context, Resident};
+
+pub use law::tile_holds;
 pub use station::Station;
 pub use tile::Tile;

@@ -6,15 +6,15 @@ ghost use Rattle.bundle_model.specs.Resources.{meets_of};
 ghost use Rattle.bundle_model.specs.Grants.{IsApart, bundle_at, grant_resources};
 ghost use Rattle.bundle_model.specs.World.{IsSoundCatalog, IsSoundWorld, AreOfLoads};
 ghost use Rattle.bundle_model.specs.WellFormed.{IsWellFormed};
+ghost use Rattle.soc_base.specs.declared.limits.TheConstants.{LAST_CYCLE};
 ghost use Rattle.tile_core.specs.Fit.{IsMadeFor, IsFit};
 
-use crate::residents::bundle_at;
 use crate::tile::Tile;
 use bundle_model::{
     Bundle, Grant, LoadName, Named, RawBundle, RawPart, Resource, Schedule, World, check, meets,
     resources,
 };
-use platform_model::{Platform, RawCosts, RawPlatform};
+use platform_model::Platform;
 use soc_base::{Flit, Items, Label, Text};
 use std::alloc::Global;
 use std::process::Abort;
@@ -36,37 +36,6 @@ const SECOND: LoadName = LoadName {
     },
     bundle: 1,
 };
-
-// A platform of one tile whose two partition slots are served from cycles 72 and 200 on, and again
-// 256 cycles later.
-fn platform(alloc: Global) -> Result<Platform, Fail> {
-    let costs = RawCosts {
-        integer: 1,
-        mul: 3,
-        div: 34,
-        load: 2,
-        store: 2,
-        taken: 3,
-        untaken: 1,
-        jump: 3,
-        device: 4,
-        system: 1,
-    };
-    let raw = RawPlatform {
-        tiles: 1,
-        mem_bytes: 4096,
-        slot_cycles: 8,
-        table_slots: 8,
-        kernel_cycles: 72,
-        partition_cycles: 56,
-        partition_slots: 2,
-        ports: 2,
-        queue: 8,
-        links: Items::new(alloc),
-        costs,
-    };
-    Ok(Platform::check(alloc, &raw)?)
-}
 
 // A bundle of one part that traces 7 and ends: its instructions take 1, 1, 4 and 1 cycles.
 fn bundle(alloc: Global, platform: &Platform, slot: i64, base: i64) -> Result<Bundle, Fail>
@@ -106,13 +75,14 @@ fn named(alloc: Global, name: &str, bundle: Bundle) -> Result<Named, Fail>
     })
 }
 
-// The platform and two bundles: one in partition slot 0 from byte 0 on, and one in partition slot 1
+// The plain platform, whose two partition slots are served from cycles 72 and 200 on, and again 256
+// cycles later, and two bundles: one in partition slot 0 from byte 0 on, and one in partition slot 1
 // from byte 64 on.
 fn world(alloc: Global) -> Result<World, Fail>
     ensures sound { IfOk result IsSoundCatalog }
     ensures two { IfOk result (λ world. length world.catalog ≡ 2) }
 {
-    let platform = platform(alloc)?;
+    let platform = Platform::plain(alloc)?;
     let first = named(alloc, "first", bundle(alloc, &platform, 0, 0)?)?;
     let second = named(alloc, "second", bundle(alloc, &platform, 1, 64)?)?;
     Ok(World {
@@ -132,7 +102,7 @@ fn held<A: Abort>(
     ensures known { IfOk result (λ held. IsSome (bundle_at world.now grant.now.bundle)) }
     ensures held { IfOk result (λ held. held.items ≡ grant_resources world.now grant.now) }
 {
-    let Some(bundle) = bundle_at(world, grant.bundle) else {
+    let Some(bundle) = world.bundle(grant.bundle) else {
         panic!(rt; "no bundle");
     };
     Ok(resources(alloc, &world.platform, bundle)?)
@@ -177,7 +147,7 @@ fn schedule<A: Abort>(
 }
 
 // Does all slots of a tile up to the schedule's horizon.
-#[tactic(auto, using(crate::proofs::FitLemmas::slot_at))]
+#[tactic(auto, using(crate::proofs::Made::slot_at))]
 fn run_slots(world: &World, loads: &[LoadName], schedule: &Schedule, tile: &mut Tile)
     requires sound { IsSoundWorld world.now loads.now }
     requires made { IsMadeFor world.now loads.now tile.old }
@@ -185,7 +155,7 @@ fn run_slots(world: &World, loads: &[LoadName], schedule: &Schedule, tile: &mut 
     requires of_loads { AreOfLoads loads.now schedule.now.grants.items }
     requires fits { IsFit world.now schedule.now.grants.items tile.old }
     requires first { tile.old.at ≡ 0 }
-    requires bounded { schedule.now.horizon * world.now.platform.slot_cycles ≤ 1000000000063 }
+    requires bounded { schedule.now.horizon * world.now.platform.slot_cycles ≤ LAST_CYCLE }
     ensures { IsMadeFor world.now loads.now tile.new }
 {
     let idle = [Flit {
@@ -198,7 +168,7 @@ fn run_slots(world: &World, loads: &[LoadName], schedule: &Schedule, tile: &mut 
 }
 
 // Follows a tile with both loads from its beginning over so many slots.
-#[tactic(auto, using(crate::proofs::FreshLemmas::fresh_made, crate::proofs::FreshLemmas::fresh_fits, crate::proofs::FreshLemmas::fresh_at))]
+#[tactic(auto, using(crate::proofs::Fresh::fresh_made, crate::proofs::Fresh::fresh_fits, crate::proofs::Fresh::fresh_at))]
 fn followed<A: Abort>(
     rt: &A,
     alloc: Global,
@@ -213,7 +183,7 @@ fn followed<A: Abort>(
     requires bundles { (first.bundle ≡ 0) × (second.bundle ≡ 1) }
     requires begins { IfSome first.end (λ end. first.start ≤ end) }
     requires follows { IfSome second.end (λ end. second.start ≤ end) }
-    requires bounded { slots * world.now.platform.slot_cycles ≤ 1000000000063 }
+    requires bounded { slots * world.now.platform.slot_cycles ≤ LAST_CYCLE }
     ensures { IfOk result (λ tile. length tile.memory ≡ world.now.platform.mem_bytes) }
 {
     let loads = [FIRST, SECOND];
@@ -299,6 +269,43 @@ fn runs_each_load_in_its_slot(rt: HostRuntime) -> Result<(), Fail> {
     Ok(())
 }
 
+// Checks who is installed with each number, and who is held.
+fn check_owners<A: Abort>(
+    rt: &A,
+    tile: &Tile,
+    first: Option<Label>,
+    second: Option<Label>,
+    held: Option<u8>,
+) {
+    assert_eq!(rt; tile.owner(0), first);
+    assert_eq!(rt; tile.owner(1), second);
+    assert_eq!(rt; tile.owner(2), None);
+    assert_eq!(rt; tile.kernel().held(), held);
+}
+
+#[test]
+fn holds_each_load_in_its_turn(rt: HostRuntime) -> Result<(), Fail> {
+    let alloc = rt.alloc();
+    let world = world(alloc)?;
+    let first = granted(FIRST, 0, Some(20));
+    let second = granted(SECOND, 1, None);
+    let (one, two) = (Some(FIRST.label), Some(SECOND.label));
+    // Slot 4 has the swap at cycle 33, and slot 20 that at cycle 161. A part that leaves is held no more.
+    let slots = [
+        (1, one, None, None),
+        (4, one, two, None),
+        (5, one, two, Some(0)),
+        (20, one, two, Some(0)),
+        (21, None, two, Some(1)),
+        (37, None, two, None),
+    ];
+    for (slot, first_owner, second_owner, held) in slots {
+        let tile = followed(&rt, alloc, &world, first, second, slot)?;
+        check_owners(&rt, &tile, first_owner, second_owner, held);
+    }
+    Ok(())
+}
+
 #[test]
 fn misses_the_instance_of_its_grant(rt: HostRuntime) -> Result<(), Fail> {
     let alloc = rt.alloc();
@@ -309,6 +316,19 @@ fn misses_the_instance_of_its_grant(rt: HostRuntime) -> Result<(), Fail> {
     check_log(&rt, &tile, FIRST, &[row(333)], halted(334));
     check_log(&rt, &tile, SECOND, &[], PartEnd::Live);
     check_words(&rt, &world, &tile, WORD, WORD);
+    Ok(())
+}
+
+#[test]
+fn misses_the_instance_that_it_is_granted_in(rt: HostRuntime) -> Result<(), Fail> {
+    let alloc = rt.alloc();
+    let world = world(alloc)?;
+    // Slot 37 begins at cycle 296, among the microkernel's cycles of the instance from 256 on.
+    let first = granted(FIRST, 37, None);
+    let second = granted(SECOND, 37, None);
+    let tile = followed(&rt, alloc, &world, first, second, 80)?;
+    check_log(&rt, &tile, FIRST, &[row(589)], halted(590));
+    check_log(&rt, &tile, SECOND, &[row(461)], halted(462));
     Ok(())
 }
 

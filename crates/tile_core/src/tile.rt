@@ -1,30 +1,36 @@
 //! A tile, slot by slot.
 
-ghost use Rattle.std.specs.Prelude.{◌≡◌, ◌<◌, List, option_map, IfOk};
+ghost use Rattle.std.specs.Prelude.{◌≡◌, List, filter, map, is_some, IfOk};
 ghost use Rattle.std.specs.Option.{option_copied};
 ghost use Rattle.bundle_model.specs.World.{part_on};
-ghost use Rattle.tile_core.specs.Tile.{fresh_resident, fresh_residents};
+ghost use Rattle.tile_core.specs.Tile.{loads_on, fresh_log};
 
 /// The cycles of a slot.
-mod cycle;
+mod cycles;
+/// Grants that end and begin in a slot.
+mod grants;
+/// Finding loads and their parts.
+mod loads;
 
-use crate::grants::{begin_grants, end_grants};
-use crate::resident::Resident;
-use crate::residents::{part_on, resident_of};
-use bundle_model::{Grant, LoadName, Schedule, World};
+use bundle_model::{LoadName, Schedule, World};
+use comik::Kernel;
 use soc_base::{Flit, Label, NoMemory};
 use std::alloc::Global;
 use std::marker::Model;
 use tile_memory::TileMemory;
 use trace_log::PartLog;
 
-/// A tile: its memory and what it keeps of each load with a part on it.
+/// A tile: its microkernel, its memory, and what it keeps of each load with a part on it.
 #[derive(Drop)]
 pub struct Tile {
     number: u8,
     slot: u64,
+    microkernel: Kernel,
     bytes: TileMemory,
-    loads: Vec<Resident>,
+    // The place of the load whose part is installed with each number.
+    numbers: Vec<Option<usize>>,
+    names: Vec<LoadName>,
+    part_logs: Vec<PartLog>,
 }
 
 impl Model for Tile {
@@ -32,104 +38,103 @@ impl Model for Tile {
 
     ghost Value = { TileState };
 
-    ghost view = { λ t. record { number = t.number; at = t.slot; memory = t.bytes; residents = t.loads.items } };
+    ghost view = { λ t. record { number = t.number; at = t.slot; kernel = t.microkernel; memory = t.bytes; places = t.numbers.items; loads = t.names.items; logs = t.part_logs.items } };
 }
 
-// What a tile keeps of a load before it is granted, if the load has a part on the tile.
-fn fresh_resident(
-    alloc: Global,
-    world: &World,
-    load: LoadName,
-    tile: u8,
-) -> Result<Option<Resident>, NoMemory>
-    ensures { IfOk result (λ resident. resident ≡ option_map (fresh_resident load) (part_on world.now tile load.bundle)) }
-{
-    match part_on(world, tile, load.bundle) {
-        Some(part) => Ok(Some(Resident {
-            label: load.label,
-            bundle: load.bundle,
-            context: None,
-            log: PartLog::new(alloc, part.trace)?,
-        })),
-        None => Ok(None),
-    }
-}
-
-// What a tile keeps of the loads with a part on it, before any is granted.
-fn fresh_residents(
+// The loads with a part on a tile.
+fn loads_on(
     alloc: Global,
     world: &World,
     loads: &[LoadName],
     tile: u8,
-) -> Result<Vec<Resident>, NoMemory>
-    ensures { IfOk result (λ residents. residents.items ≡ fresh_residents world.now loads.now tile) }
+) -> Result<Vec<LoadName>, NoMemory>
+    ensures { IfOk result (λ names. names.items ≡ loads_on world.now tile loads.now) }
 {
-    let mut residents = Vec::with_capacity(alloc, loads.len())?;
+    let mut names = Vec::with_capacity(alloc, loads.len())?;
     for load in loads {
-        if let Some(resident) = fresh_resident(alloc, world, *load, tile)? {
-            residents.push_reserved(resident);
+        if world.part_on(tile, load.bundle).is_some() {
+            names.push_reserved(*load);
         }
     }
-    Ok(residents)
+    Ok(names)
+}
+
+// The log of a load's part on a tile, before the load is granted.
+fn fresh_log(
+    alloc: Global,
+    world: &World,
+    load: &LoadName,
+    tile: u8,
+) -> Result<PartLog, NoMemory>
+    ensures { IfOk result (λ log. log ≡ fresh_log world.now tile load.now) }
+{
+    let room = match world.part_on(tile, load.bundle) {
+        Some(part) => part.trace,
+        None => 0,
+    };
+    Ok(PartLog::new(alloc, room)?)
+}
+
+// The logs of loads, before any is granted.
+fn fresh_logs(
+    alloc: Global,
+    world: &World,
+    loads: &[LoadName],
+    tile: u8,
+) -> Result<Vec<PartLog>, NoMemory>
+    ensures { IfOk result (λ logs. logs.items ≡ map (fresh_log world.now tile) loads.now) }
+{
+    let mut logs = Vec::with_capacity(alloc, loads.len())?;
+    for load in loads {
+        logs.push_reserved(fresh_log(alloc, world, load, tile)?);
+    }
+    Ok(logs)
 }
 
 impl Tile {
-    ghost use Rattle.std.specs.Prelude.{◌+◌, ◌*◌, ◌^◌, length};
+    ghost use Rattle.std.specs.Prelude.{◌+◌, ◌*◌, ◌^◌, ◌<◌, length};
     ghost use Rattle.bundle_model.specs.declared.world.LoadName.{LoadName};
-    ghost use Rattle.bundle_model.specs.World.{IsSoundWorld, IsSoundCatalog};
-    ghost use Rattle.tile_core.specs.Tile.{fresh_tile, log_of};
-    ghost use Rattle.tile_core.specs.Slot.{tile_slot, slot_outputs, with_ends, with_starts};
-    ghost use Rattle.tile_core.specs.Fit.{IsMadeFor, IsFit, IsReady};
+    ghost use Rattle.bundle_model.specs.World.{IsSoundWorld};
+    ghost use Rattle.tile_core.specs.Tile.{fresh_tile, log_of, owner_of};
+    ghost use Rattle.tile_core.specs.Slot.{tile_slot, slot_outputs};
+    ghost use Rattle.tile_core.specs.Fit.{IsMadeFor, IsFit, IsUnderway, IsReady};
 
-    /// Makes a tile of a world, counted from 0, before its first slot, and takes all its memory: its
-    /// own, and a log for each load with a part on it. The loads are those of the run.
+    /// Makes a tile of a world, counted from 0, before its first slot, and takes all its memory: its own, a
+    /// frame for each partition slot, and a log for each load with a part on it. The loads are those of
+    /// the run. `NoMemory` where there is none for them.
     #[tactic(auto, unfolding(crate::specs::Tile::fresh_tile))]
     pub fn new(alloc: Global, world: &World, loads: &[LoadName], tile: u8) -> Result<Tile, NoMemory>
         requires sound { IsSoundWorld world.now loads.now }
         requires exists { tile < world.now.platform.tiles }
         ensures { IfOk result (λ t. t ≡ fresh_tile world.now loads.now tile) }
     {
-        let bytes = TileMemory::new(alloc, world.platform.mem_bytes)?;
-        let loads = fresh_residents(alloc, world, loads, tile)?;
+        let platform = &world.platform;
+        let microkernel = Kernel::new(alloc, platform.frame())?;
+        let bytes = TileMemory::new(alloc, platform.mem_bytes)?;
+        let numbers = Vec::from_elem(alloc, None, usize::from(platform.partition_slots))?;
+        let names = loads_on(alloc, world, loads, tile)?;
+        let part_logs = fresh_logs(alloc, world, names.as_slice(), tile)?;
         Ok(Tile {
             number: tile,
             slot: 0,
+            microkernel,
             bytes,
-            loads,
+            numbers,
+            names,
+            part_logs,
         })
     }
 
-    // Lets parts leave and installs parts, as the grants end and begin in the next slot.
-    fn settle(&mut self, world: &World, grants: &[Grant])
-        requires sound { IsSoundCatalog world.now }
-        requires size { length self.old.memory ≡ world.now.platform.mem_bytes }
-        requires bounded { self.old.at * world.now.platform.slot_cycles < 2 ^ 64 }
-        ensures settled { self.new ≡ with_starts world.now grants.now (with_ends grants.now self.old) }
-        ensures kept { length self.new.memory ≡ length self.old.memory }
-    {
-        end_grants(self.loads.as_mut_slice(), grants, self.slot);
-        begin_grants(
-            world,
-            grants,
-            self.number,
-            self.slot,
-            &mut self.bytes,
-            self.loads.as_mut_slice(),
-        );
-    }
-
     // Does what happens in the next slot.
-    #[tactic(auto, unfolding(crate::specs::Slot::tile_slot))]
-    fn advance(&mut self, world: &World, grants: &[Grant])
-        requires sound { IsSoundCatalog world.now }
-        requires size { length self.old.memory ≡ world.now.platform.mem_bytes }
+    #[tactic(auto, using(crate::proofs::Ready::settled_tile), unfolding(crate::specs::Slot::tile_slot))]
+    fn advance(&mut self, world: &World, schedule: &Schedule)
+        requires underway { IsUnderway world.now schedule.now self.old }
         requires bounded { (self.old.at + 1) * world.now.platform.slot_cycles < 2 ^ 64 }
         requires counted { self.old.at + 1 < 2 ^ 64 }
-        ensures advanced { self.new ≡ tile_slot world.now grants.now self.old }
-        ensures kept { length self.new.memory ≡ length self.old.memory }
+        ensures { self.new ≡ tile_slot world.now schedule.now.grants.items self.old }
     {
         let next = self.slot + 1;
-        self.settle(world, grants);
+        self.settle(world, schedule);
         self.cycles(world);
         self.slot = next;
     }
@@ -138,7 +143,6 @@ impl Tile {
     /// is above the slot. Takes what its links bring in the slot, by the router's inputs 0 to 6, and
     /// answers what it puts on its outputs 0 to 6 for the next one: for now no input is read and every
     /// output is idle. Takes no memory.
-    #[tactic(auto, using(crate::proofs::FitLemmas::slot_fits))]
     pub fn slot(&mut self, world: &World, schedule: &Schedule, _inputs: &[Flit; 7]) -> [Flit; 7]
         requires { IsReady world.now schedule.now self.old }
         ensures slot { self.new ≡ tile_slot world.now schedule.now.grants.items self.old }
@@ -146,8 +150,7 @@ impl Tile {
         ensures fits { IsFit world.now schedule.now.grants.items self.new }
         ensures made { (loads : List LoadName) → IsMadeFor world.now loads self.old → IsMadeFor world.now loads self.new }
     {
-        let grants = schedule.grants.as_slice();
-        self.advance(world, grants);
+        self.advance(world, schedule);
         [Flit {
             word: None,
             credits: 0,
@@ -165,8 +168,23 @@ impl Tile {
     pub fn log(&self, label: Label) -> Option<&PartLog>
         ensures { option_copied result ≡ log_of self.now label }
     {
-        match resident_of(self.loads.as_slice(), label) {
-            Some(resident) => Some(&resident.log),
+        match self.load_place(label) {
+            Some(place) => self.part_logs.as_slice().get(place),
+            None => None,
+        }
+    }
+
+    /// Answers the load whose part is installed on the tile with a number, the least of its partition
+    /// slots, from 0 to one below the number of partition slots. None exactly where no part is.
+    pub fn owner(&self, part: u8) -> Option<Label>
+        ensures { result ≡ owner_of self.now part }
+    {
+        let place = match self.numbers.as_slice().get(usize::from(part)) {
+            Some(place) => (*place)?,
+            None => return None,
+        };
+        match self.names.as_slice().get(place) {
+            Some(load) => Some(load.label),
             None => None,
         }
     }
@@ -176,5 +194,12 @@ impl Tile {
         ensures { result.now ≡ self.now.memory }
     {
         &self.bytes
+    }
+
+    /// Answers the tile's microkernel.
+    pub fn kernel(&self) -> &Kernel
+        ensures { result.now ≡ self.now.kernel }
+    {
+        &self.microkernel
     }
 }

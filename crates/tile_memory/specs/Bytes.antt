@@ -27,7 +27,9 @@ filled_bytes len image = flat_map (little_bytes 4) image ++ replicate (len - 4 *
 -- why an access to a region of so many bytes is refused, if it is
 abbrev pub refusal_of : ℕ → ℕ → Width → Option MemFault
 refusal_of len addr width =
-    if not (addr % width_bytes width == 0) then Some Align else (if nat_lt len (addr + width_bytes width) then Some Outside else None)
+    if not (addr % width_bytes width == 0) then Some Align
+    else if nat_lt len (addr + width_bytes width) then Some Outside
+    else None
 
 -- the answer of an access: a value, or why it was refused
 abbrev pub answered : {T : Type 0} → Option MemFault → T → Result T MemFault
@@ -36,7 +38,8 @@ answered (Some fault) value = Err fault
 
 -- what a load from a region answers: the number at its address
 abbrev pub load_of : List ℕ → ℕ → Width → Result ℕ MemFault
-load_of bytes addr width = answered (refusal_of (length bytes) addr width) (little_number (width_bytes width) (drop addr bytes))
+load_of bytes addr width =
+    answered (refusal_of (length bytes) addr width) (little_number (width_bytes width) (drop addr bytes))
 
 -- the word at an address of a region, whatever the address is a multiple of; none where its four bytes
 -- aren't all there
@@ -49,7 +52,13 @@ store_answer_of bytes addr width = answered (refusal_of (length bytes) addr widt
 
 -- what a store that isn't refused leaves in a region: the low bytes of the value at its address
 abbrev pub stored_bytes : List ℕ → ℕ → Width → ℕ → List ℕ
-stored_bytes bytes addr width value = take addr bytes ++ (little_bytes (width_bytes width) value ++ drop (addr + width_bytes width) bytes)
+stored_bytes bytes addr width value =
+    take addr bytes ++ (little_bytes (width_bytes width) value ++ drop (addr + width_bytes width) bytes)
+
+-- the memory after such a store to a region
+abbrev pub stored_memory : List ℕ → Region → ℕ → Width → ℕ → List ℕ
+stored_memory memory region addr width value =
+    with_region memory region (stored_bytes (region_bytes memory region) addr width value)
 
 -- the word whose first byte is byte 4 * index
 abbrev pub word_of : List ℕ → ℕ → ℕ

@@ -3,7 +3,7 @@
 ghost use Rattle.std.specs.Prelude.{◌≡◌, ◌+◌, ◌*◌, ◌%◌, ◌^◌, ◌<◌, ◌≤◌, length, replicate, IfOk, OnOk, OnErr};
 ghost use Rattle.soc_base.specs.Widths.{width_bytes};
 ghost use Rattle.soc_base.specs.declared.limits.TheConstants.{MOST_MEMORY};
-ghost use Rattle.tile_memory.specs.Bytes.{IsInside, region_bytes, with_region, filled_bytes, load_of, fetch_of, store_answer_of, stored_bytes, word_of};
+ghost use Rattle.tile_memory.specs.Bytes.{IsInside, region_bytes, with_region, filled_bytes, load_of, fetch_of, store_answer_of, stored_memory, word_of};
 
 use crate::access;
 use byteorder::{ByteOrder, LittleEndian};
@@ -100,7 +100,7 @@ impl TileMemory {
     ) -> Result<(), MemFault>
         requires { IsInside self.old region }
         ensures answer { result ≡ store_answer_of (region_bytes self.old region) addr width }
-        ensures stored { OnOk result (self.new ≡ with_region self.old region (stored_bytes (region_bytes self.old region) addr width value)) }
+        ensures stored { OnOk result (self.new ≡ stored_memory self.old region addr width value) }
         ensures refused { OnErr result (self.new ≡ self.old) }
     {
         let (base, end) = bounds(region);

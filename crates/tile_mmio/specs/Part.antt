@@ -8,8 +8,8 @@ use Rattle.tile_mmio.specs.declared.run.PartOnTile.{PartOnTile}
 
 -- the part as its application sees it: its registers, the cycles that are left, the bytes of its region
 -- and its log
-abbrev pub state_of : PartOnTile → PartState
-state_of p = record { regs = p.regs.now; left = p.left.now; bytes = region_bytes p.memory.now p.region; log = p.log.now }
+abbrev pub view_of : PartOnTile → PartState
+view_of p = record { regs = p.regs.now; left = p.left.now; bytes = region_bytes p.memory.now p.region; log = p.log.now }
 
 -- what no cycle of the part changes: the loans, the region, the bytes before and after it, and the
 -- memory's size

@@ -3,17 +3,29 @@ use Rattle.std.specs.Prelude.{ℕ, ◌+◌, List, take, drop, length}
 use Rattle.std.specs.Borrow.{GName}
 use Rattle.soc_base.specs.declared.region.Region.{Region}
 use Rattle.tile_memory.specs.Bytes.{region_bytes}
+use Rattle.trace_log.specs.Log.{Log}
 use Rattle.part_model.specs.Answers.{BusState}
 use Rattle.tile_mmio.specs.declared.part_bus.PartBus.{PartBus}
 
--- the bytes of the part's region, its log, its place and the cycle
+-- what the bus of a part holds in a cycle: the bytes of the part's region of a memory, its log, its tile
+-- and the kinds of rows that it names
+abbrev pub bus_on : List ℕ → Region → Log → ℕ → ℕ → ℕ → BusState
+bus_on memory region log tile kinds cycle = record {
+  bytes = region_bytes memory region;
+  log = log;
+  place = record { tile = tile; kinds = kinds };
+  cycle = cycle;
+}
+
+-- what a bus holds
 abbrev pub bus_state : PartBus → BusState
-bus_state b = record { bytes = region_bytes b.memory.now b.region; log = b.log.now; place = b.place; cycle = b.cycle }
+bus_state b = bus_on b.memory.now b.region b.log.now b.place.tile b.place.kinds b.cycle
 
 -- the whole memory that the region lies in
 abbrev pub bus_memory : PartBus → List ℕ
 bus_memory b = b.memory.now
 
+-- the part's region of it
 abbrev pub bus_region : PartBus → Region
 bus_region b = b.region
 
@@ -23,4 +35,10 @@ bus_loans b = (b.memory.ghost_name, b.log.ghost_name)
 
 -- what no access changes: the loans, the region, the bytes before and after it, and the memory's size
 abbrev pub bus_rest : PartBus → (GName × GName) × Region × List ℕ × List ℕ × ℕ
-bus_rest b = (bus_loans b, b.region, take b.region.base b.memory.now, drop (b.region.base + b.region.len) b.memory.now, length b.memory.now)
+bus_rest b = (
+  bus_loans b,
+  b.region,
+  take b.region.base b.memory.now,
+  drop (b.region.base + b.region.len) b.memory.now,
+  length b.memory.now,
+)

@@ -1,6 +1,8 @@
-//! The bus of one part on a tile: its region of the tile's memory, and the device registers.
+//! One part on a tile: its bus, which is its region of the tile's memory and the device registers, and its
+//! cycles.
 //!
-//! What it answers is `part_model`'s `Answers`; this crate says it of real memory and a real log.
+//! What the bus answers and what a cycle does are `part_model`'s `Answers` and `Part`; this crate says it of
+//! real memory and a real log, by what `specs/State` and `specs/Part` see in them.
 #![tactic(auto)]
 
 /// One cycle of a part over its region.

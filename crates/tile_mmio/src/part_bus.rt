@@ -5,23 +5,13 @@ ghost use Rattle.soc_base.specs.Widths.{width_bytes};
 ghost use Rattle.part_model.specs.Answers.{cause_of, memory_answer, device_load};
 ghost use Rattle.tile_memory.specs.Bytes.{IsInside};
 
-use part_model::{Place, trace};
+use part_model::{CYCLE, CYCLEH, DEVICE_BASE, Place, TRACE, trace};
 use rv_core::{Answer, Bus, Cause};
 use tile_memory::{MemFault, Region, TileMemory, Width};
 use trace_log::{Kind, PartLog};
 
-/// The first address of the device registers.
-const DEVICES: u32 = 0x8000_0000;
-/// The register that a part stores the words of its trace to.
-const TRACE: u32 = 0x8000_0000;
-/// The low word of the current cycle.
-const CYCLE: u32 = 0x8000_0004;
-/// The high word of the current cycle.
-const CYCLEH: u32 = 0x8000_0008;
-
-/// The bus of one part in one cycle: addresses below 0x80000000 are the part's region, and from there
-/// on stand the device registers TRACE (80000000, stored), CYCLE and CYCLEH (80000004 and 80000008,
-/// loaded), each a word.
+/// The bus of one part in one cycle: addresses below `DEVICE_BASE` are the part's region, and from there
+/// on stand the device registers `TRACE`, which is stored, and `CYCLE` and `CYCLEH`, which are loaded.
 #[derive(Drop)]
 pub struct PartBus<'a> {
     memory: &'a mut TileMemory,
@@ -33,8 +23,7 @@ pub struct PartBus<'a> {
 }
 
 impl<'a> PartBus<'a> {
-    ghost use Rattle.tile_memory.specs.Bytes.{region_bytes};
-    ghost use Rattle.tile_mmio.specs.State.{bus_state, bus_loans, bus_memory, bus_region};
+    ghost use Rattle.tile_mmio.specs.State.{bus_on, bus_state, bus_loans, bus_memory, bus_region};
 
     /// Makes the bus of a part in a cycle. The part's region lies in the memory; `kinds` is the set of
     /// kinds of rows that the part names. Takes no memory.
@@ -50,7 +39,7 @@ impl<'a> PartBus<'a> {
         ensures loans { bus_loans result ≡ (memory.entry.ghost_name, log.entry.ghost_name) }
         ensures memory { bus_memory result ≡ memory.old }
         ensures region { bus_region result ≡ region }
-        ensures state { bus_state result ≡ record { bytes = region_bytes memory.old region; log = log.old; place = record { tile = tile; kinds = kinds }; cycle = cycle } }
+        ensures state { bus_state result ≡ bus_on memory.old region log.old tile kinds cycle }
     {
         PartBus {
             memory,
@@ -112,7 +101,8 @@ impl<'a> Bus for PartBus<'a> {
     ghost use Rattle.std.specs.Prelude.{ℕ, List};
     ghost use Rattle.std.specs.Borrow.{GName};
     ghost use Rattle.soc_base.specs.declared.region.Region.{Region};
-    ghost use Rattle.part_model.specs.Answers.{BusState, fetch_answer, load_answer, store_answer};
+    ghost use Rattle.part_model.specs.Answers.{BusState};
+    ghost use Rattle.part_model.specs.Part.{part_bus};
     ghost use Rattle.tile_mmio.specs.State.{bus_state, bus_rest};
 
     ghost State = { BusState };
@@ -123,11 +113,7 @@ impl<'a> Bus for PartBus<'a> {
 
     ghost kept = { bus_rest };
 
-    ghost fetch_at = { fetch_answer };
-
-    ghost load_at = { load_answer };
-
-    ghost store_at = { store_answer };
+    ghost answers = { part_bus };
 
     fn fetch(&self, pc: u32) -> Option<u32> {
         self.memory.fetch(self.region, pc)
@@ -135,7 +121,7 @@ impl<'a> Bus for PartBus<'a> {
 
     #[tactic(auto, unfolding(part_model::specs::Answers::load_answer))]
     fn load(&mut self, addr: u32, width: Width) -> Answer {
-        if addr < DEVICES {
+        if addr < DEVICE_BASE {
             return answer(self.memory.load(self.region, addr, width));
         }
         device_load(self.cycle, addr, width)
@@ -143,7 +129,7 @@ impl<'a> Bus for PartBus<'a> {
 
     #[tactic(auto, unfolding(part_model::specs::Answers::store_answer))]
     fn store(&mut self, addr: u32, width: Width, value: u32) -> Answer {
-        if addr < DEVICES {
+        if addr < DEVICE_BASE {
             return match self.memory.store(self.region, addr, width, value) {
                 Ok(()) => Answer::Done(0),
                 Err(fault) => Answer::Fault(cause(fault)),

@@ -31,14 +31,15 @@ impl<'a> PartOnTile<'a> {
     ghost use Rattle.trace_log.specs.Log.{has_ended};
     ghost use Rattle.tile_memory.specs.Bytes.{IsInside};
     ghost use Rattle.part_model.specs.Running.{instr_of};
-    ghost use Rattle.part_model.specs.Part.{part_cycle, completed, word_at_pc, due_in};
-    ghost use Rattle.tile_mmio.specs.Part.{state_of, rest_of};
+    ghost use Rattle.part_model.specs.Part.{part_cycle};
+    ghost use Rattle.part_model.specs.inner.Steps.{word_at_pc, due_in, completed};
+    ghost use Rattle.tile_mmio.specs.Part.{view_of, rest_of};
 
     // Does what stands at pc, in a cycle, and writes down what it came to.
     fn complete(&mut self, place: Place, cycle: u64, here: Result<Instr, Cause>)
         requires inside { IsInside self.old.memory.now self.old.region }
         requires range { ForOk here IsInRange }
-        ensures state { state_of self.new ≡ completed place cycle (state_of self.old) here }
+        ensures view { view_of self.new ≡ completed place cycle (view_of self.old) here }
         ensures rest { rest_of self.new ≡ rest_of self.old }
     {
         let regs = &*self.regs;
@@ -59,7 +60,7 @@ impl<'a> PartOnTile<'a> {
     // What stands at pc.
     fn here(&self) -> Result<Instr, Cause>
         requires inside { IsInside self.now.memory.now self.now.region }
-        ensures exact { result ≡ instr_of (word_at_pc (state_of self.now)) }
+        ensures exact { result ≡ instr_of (word_at_pc (view_of self.now)) }
         ensures range { IfOk result IsInRange }
     {
         let regs = &*self.regs;
@@ -69,9 +70,9 @@ impl<'a> PartOnTile<'a> {
     // How many cycles what stands at pc needs still.
     #[tactic(auto, using(part_model::proofs::Laws::cost_of_word))]
     fn due(&self, costs: &Costs, here: Result<Instr, Cause>) -> u8
-        requires here { here ≡ instr_of (word_at_pc (state_of self.now)) }
+        requires here { here ≡ instr_of (word_at_pc (view_of self.now)) }
         requires range { ForOk here IsInRange }
-        ensures due { result ≡ due_in costs.now (state_of self.now) }
+        ensures due { result ≡ due_in costs.now (view_of self.now) }
         ensures some { 0 < result }
     {
         let left = *self.left;
@@ -86,7 +87,7 @@ impl<'a> PartOnTile<'a> {
     fn wait(&mut self, due: u8, count: u64) -> u64
         requires { count < due }
         ensures count { result ≡ count }
-        ensures state { state_of self.new ≡ record (state_of self.old) { left = due - count } }
+        ensures view { view_of self.new ≡ record (view_of self.old) { left = due - count } }
         ensures rest { rest_of self.new ≡ rest_of self.old }
     {
         *self.left = due - count as u8;
@@ -103,7 +104,7 @@ impl<'a> PartOnTile<'a> {
         requires live { has_ended self.old.log.now.end ≡ false }
         ensures some { 0 < result }
         ensures most { result ≤ most }
-        ensures state { state_of self.new ≡ after_steps (part_cycle costs.now place) cycle result (state_of self.old) }
+        ensures view { view_of self.new ≡ after_steps (part_cycle costs.now place) cycle result (view_of self.old) }
         ensures rest { rest_of self.new ≡ rest_of self.old }
     {
         let left = *self.left;
@@ -120,13 +121,13 @@ impl<'a> PartOnTile<'a> {
         count
     }
 
-    #[tactic(auto, using(part_model::proofs::Laws::ended_stays, soc_base::proofs::Laws::steps_none, soc_base::proofs::Laws::steps_split))]
+    #[tactic(auto, using(soc_base::proofs::Laws::steps_none, soc_base::proofs::Laws::steps_split))]
     /// Does `count` cycles of the part from `cycle` on. A part that has ended does nothing, and any other in
     /// each cycle what the instruction at pc needs. No byte outside the region changes. Takes no memory.
     pub fn run(&mut self, costs: &Costs, place: Place, cycle: u64, count: u64)
         requires inside { IsInside self.old.memory.now self.old.region }
         requires bounded { cycle + count ≤ 2 ^ 64 }
-        ensures state { state_of self.new ≡ after_steps (part_cycle costs.now place) cycle count (state_of self.old) }
+        ensures view { view_of self.new ≡ after_steps (part_cycle costs.now place) cycle count (view_of self.old) }
         ensures rest { rest_of self.new ≡ rest_of self.old }
     {
         let mut done = 0;

@@ -2,10 +2,10 @@
 
 ghost use Rattle.std.specs.Prelude.{◌≡◌, length, IfOk};
 
-use crate::cycle::cycle_part;
 use crate::part_bus::PartBus;
+use crate::run::PartOnTile;
 use part_model::Place;
-use platform_model::Costs;
+use platform_model::Platform;
 use rv_core::{Answer, Bus, Cause, Regs};
 use soc_base::NoMemory;
 use std::alloc::Global;
@@ -22,19 +22,6 @@ const LATE: u64 = 0x5_0000_0102;
 
 // The part's region: 32 bytes after the first 16 of its tile's 64.
 const REGION: Region = Region { base: 16, len: 32 };
-
-const COSTS: Costs = Costs {
-    integer: 1,
-    mul: 3,
-    div: 34,
-    load: 2,
-    store: 2,
-    taken: 3,
-    untaken: 1,
-    jump: 3,
-    device: 4,
-    system: 1,
-};
 
 #[derive(Clone, Copy, Debug)]
 enum Access {
@@ -177,6 +164,7 @@ fn answers_accesses(rt: HostRuntime) -> Result<(), Fail> {
 
 #[test]
 fn runs_a_program(rt: HostRuntime) -> Result<(), Fail> {
+    let platform = Platform::plain(rt.alloc())?;
     let place = Place {
         tile: 3,
         kinds: 0b1001,
@@ -185,30 +173,27 @@ fn runs_a_program(rt: HostRuntime) -> Result<(), Fail> {
     let mut log = PartLog::new(rt.alloc(), 8)?;
     let mut regs = Regs::new(0);
     let mut left = 0;
-    // The cycle, and the cycles that are left and pc after it: a store to a device register has 4.
-    let cases = [
-        (100, 0, 4),
-        (101, 0, 8),
-        (102, 3, 8),
-        (103, 2, 8),
-        (104, 1, 8),
-        (105, 0, 12),
-        (106, 0, 12),
-        (107, 0, 12),
+    // The first cycle of a stretch and how many it has, and the cycles that are left and pc after it: a
+    // store to a device register has 4.
+    let cases: [(u32, u32, u8, u32); 6] = [
+        (100, 1, 0, 4),
+        (101, 2, 3, 8),
+        (103, 2, 1, 8),
+        (105, 1, 0, 12),
+        (106, 0, 0, 12),
+        (106, 9, 0, 12),
     ];
-    for (cycle, cycles_left, pc) in cases {
-        cycle_part(
-            &COSTS,
-            place,
-            &mut regs,
-            &mut left,
-            &mut memory,
-            REGION,
-            &mut log,
-            cycle,
-        );
-        assert_eq!(rt; left, cycles_left, "after {cycle}");
-        assert_eq!(rt; regs.pc, pc, "after {cycle}");
+    for (cycle, count, cycles_left, pc) in cases {
+        let mut part = PartOnTile {
+            regs: &mut regs,
+            left: &mut left,
+            memory: &mut memory,
+            region: REGION,
+            log: &mut log,
+        };
+        part.run(&platform.costs, place, u64::from(cycle), u64::from(count));
+        assert_eq!(rt; left, cycles_left, "after {count} from {cycle}");
+        assert_eq!(rt; regs.pc, pc, "after {count} from {cycle}");
     }
     let rows = [
         row(100, Kind::Step, 0),

@@ -8,21 +8,27 @@ use Rattle.toml_keys.specs.declared.key.Kind.TheVariants as kind
 use Rattle.toml_keys.specs.declared.key.Shape.{Shape}
 use Rattle.toml_keys.specs.declared.key.Shape.TheVariants as shape
 
+-- an integer
 abbrev pub integer_shape : Shape
 integer_shape = shape.One kind.Integer
 
+-- a string
 abbrev pub text_shape : Shape
 text_shape = shape.One kind.Text
 
+-- a table
 abbrev pub table_shape : Shape
 table_shape = shape.One kind.Table
 
+-- an array of integers
 abbrev pub integers_shape : Shape
 integers_shape = shape.ListOf kind.Integer
 
+-- an array of strings
 abbrev pub texts_shape : Shape
 texts_shape = shape.ListOf kind.Text
 
+-- an array of tables
 abbrev pub tables_shape : Shape
 tables_shape = shape.ListOf kind.Table
 
@@ -32,9 +38,11 @@ pub record KeyRule : Type 0 where
   pub shape : Shape
   pub required : Bool
 
+-- a key that must be there
 abbrev pub required_key : List ℕ → Shape → KeyRule
 required_key name form = record { name = name; shape = form; required = true }
 
+-- a key that may be left out
 abbrev pub optional_key : List ℕ → Shape → KeyRule
 optional_key name form = record { name = name; shape = form; required = false }
 

@@ -1,4 +1,5 @@
 pub mod Keys
 pub mod Values
 pub mod Document
+pub mod Judged
 pub mod Level

@@ -41,12 +41,14 @@ tables_of no_items = []
 tables_of (item (table ms) ds) = ms ∷ tables_of ds
 tables_of (item _ ds) = tables_of ds
 
--- the integers, the texts and the tables of the array at a key, in the array's order
+-- the integers of the array at a key, in the array's order
 unfoldable pub integers_at : List ℕ → Members → List ℤ
 integers_at name ms = integers_of (items_at name ms)
 
+-- the texts of the array at a key, in the array's order
 unfoldable pub texts_at : List ℕ → Members → List (List ℕ)
 texts_at name ms = texts_of (items_at name ms)
 
+-- the tables of the array at a key, in the array's order
 unfoldable pub tables_at : List ℕ → Members → List Members
 tables_at name ms = tables_of (items_at name ms)

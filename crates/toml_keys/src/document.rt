@@ -4,17 +4,15 @@ ghost use Rattle.std.specs.Prelude.{◌≡◌, IfOk};
 ghost use Rattle.toml.specs.View.{table_view};
 ghost use Rattle.toml_keys.specs.Document.{Reads};
 
+use soc_base::MOST_FILE_BYTES;
 use std::alloc::Global;
 use thiserror::Error;
 use toml::Table;
 
-/// The most bytes that a file may have: 4 MiB.
-pub const DOCUMENT_LIMIT: usize = 4_194_304;
-
 /// Why a file was not read.
 #[derive(Clone, Copy, Debug, PartialEq, Eq, Error)]
 pub enum DocumentFault {
-    /// The bytes are longer than 4 MiB, aren't UTF-8 or aren't a document of the library `toml`.
+    /// The bytes are more than `MOST_FILE_BYTES`, aren't UTF-8 or aren't a document of the library `toml`.
     #[error("no document")]
     NoDocument,
     /// Memory was wanted and not had.
@@ -27,7 +25,7 @@ pub fn read_document(alloc: Global, bytes: &[u8]) -> Result<Table, DocumentFault
     ensures value { IfOk result (λ table. Reads bytes.now (Some (table_view table))) }
     ensures refused { result ≡ Err DocumentFault.NoDocument → Reads bytes.now None }
 {
-    if bytes.len() > DOCUMENT_LIMIT {
+    if bytes.len() > MOST_FILE_BYTES {
         return Err(DocumentFault::NoDocument);
     }
     let Ok(text) = std::str::from_utf8(bytes) else {

@@ -2,8 +2,8 @@
 //! what stands at a key.
 //!
 //! `specs/` has the meanings that the readers above cite: `Keys` (a table has only known keys, and
-//! its values have their shapes), `Values` (what stands at a key) and `Document` (the bytes are a
-//! document).
+//! its values have their shapes), `Values` (what stands at a key), `Document` (the bytes are a
+//! document) and `Judged` (the least rule that a file breaks, or what it gives).
 #![tactic(auto)]
 
 /// The document that the bytes of a file are.
@@ -13,6 +13,6 @@ mod key;
 /// A table of a document, and what stands in it.
 mod level;
 
-pub use document::{DOCUMENT_LIMIT, DocumentFault, read_document};
+pub use document::{DocumentFault, read_document};
 pub use key::{Key, Kind, Shape, optional, required};
 pub use level::Level;

@@ -253,6 +253,7 @@ impl<'s> Manager<'s> {
         ensures grants { into.new.grants.items ≡ grants_of self.now.setup self.now.history }
         ensures horizon { into.new.horizon ≡ horizon_of self.now.setup self.now.history }
         ensures room { vec_capacity into.new.grants ≡ vec_capacity into.old.grants }
+        ensures legal { IsLegal self.now.setup self.now.history }
     {
         into.grants.clear();
         for grant in self.grants.as_slice() {
@@ -270,7 +271,8 @@ impl<'s> Manager<'s> {
 
     /// Gives the history. Takes no memory.
     pub fn into_history(self) -> Vec<Entry>
-        ensures { result.items ≡ self.entry.history }
+        ensures history { result.items ≡ self.entry.history }
+        ensures legal { IsLegal self.entry.setup self.entry.history }
     {
         self.history
     }

@@ -24,7 +24,8 @@ fn greet<S: Sink>(sink: &mut S, name: &[u8]) -> Result<(), SinkFault>
 
 // Marks, each in two pieces, as callers print rows in a loop.
 fn put_marks<S: Sink>(printer: &mut Printer<'_, S>, marks: &[u8])
-    ensures printed { PrintsMore S.written S.faults printer.old printer.new (flat_map (λ mark. mark ∷ codes ";") marks.now) }
+    ensures printed { PrintsMore S.written S.faults printer.old printer.new
+        (flat_map (λ mark. mark ∷ codes ";") marks.now) }
     ensures same { printer.new.sink.ghost_name ≡ printer.old.sink.ghost_name }
 {
     for mark in marks {
@@ -35,7 +36,8 @@ fn put_marks<S: Sink>(printer: &mut Printer<'_, S>, marks: &[u8])
 
 // A head, and marks.
 fn list<S: Sink>(sink: &mut S, marks: &[u8]) -> Result<(), SinkFault>
-    ensures answer { WritesText S.written S.faults sink.old sink.new (codes "marks " ++ flat_map (λ mark. mark ∷ codes ";") marks.now) result }
+    ensures answer { WritesText S.written S.faults sink.old sink.new
+        (codes "marks " ++ flat_map (λ mark. mark ∷ codes ";") marks.now) result }
     ensures counted { S.faults sink.old ≤ S.faults sink.new }
 {
     let mut printer = Printer::new(sink);

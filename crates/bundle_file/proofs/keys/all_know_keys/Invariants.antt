@@ -1,8 +1,9 @@
 use Rattle.std.proofs.Common.{◌≡◌, map, drop}
 use Rattle.std.specs.List.{list_all}
+use Rattle.toml_keys.specs.Keys.{has_only}
 use Rattle.toml_keys.specs.Level.{level_members}
-use Rattle.bundle_file.specs.Reading.{knows_pair_keys}
+use Rattle.bundle_file.specs.Reading.{pair_passes}
 use Rattle.bundle_file.proofs.keys.all_know_keys.Given as goal
 
 abbrev pub invariant-loop-pair : goal.invariant-loop-pair
-invariant-loop-pair l = list_all knows_pair_keys (map level_members (drop l.pair-index l.pairs)) ≡ list_all knows_pair_keys (map level_members l.pairs)
+invariant-loop-pair l = list_all (pair_passes has_only) (map level_members (drop l.pair-index l.pairs)) ≡ list_all (pair_passes has_only) (map level_members l.pairs)

@@ -1,6 +1,6 @@
 use Rattle.std.proofs.Common.{◌≡◌, length, refl, ◌∙◌}
 use Rattle.tile_memory.specs.Bytes.{region_bytes, stored_bytes}
-use Rattle.tile_memory.proofs.Regions.{take-with_region, drop-with_region, length-with_region, length-stored_bytes, length-region_bytes, stored_inside}
+use Rattle.tile_memory.proofs.Laws.{take-with_region, drop-with_region, length-with_region, length-stored_bytes, length-region_bytes, stored_inside}
 use Rattle.tile_mmio.proofs.part_bus.PartBusBus.store.Goals as goal
 
 -- a store in the region leaves the bytes outside it

@@ -1,0 +1,13 @@
+pub mod Blending
+pub mod Times
+pub mod Places
+pub mod Switches
+pub mod Rows
+pub mod Least
+pub mod Owners
+pub mod Parts
+pub mod Whole
+pub mod Still
+pub mod Stretches
+pub mod Turns
+pub mod Laws

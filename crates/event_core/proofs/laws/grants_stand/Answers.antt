@@ -1,5 +1,0 @@
-use Rattle.event_core.proofs.Standing.{grants_stand}
-use Rattle.event_core.proofs.laws.grants_stand.Goals as goal
-
-pub returns : goal.returns
-returns c = grants_stand

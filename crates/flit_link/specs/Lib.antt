@@ -1,0 +1,4 @@
+pub mod Packing
+pub mod Names
+pub mod Flits
+pub mod Link

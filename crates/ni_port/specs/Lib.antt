@@ -1,0 +1,2 @@
+pub mod SizedPort
+pub mod Fields

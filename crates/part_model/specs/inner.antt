@@ -1,0 +1,2 @@
+-- Words of clauses between the steps of a part's cycle.
+pub mod Steps

@@ -1,0 +1,2 @@
+-- Words of clauses between the functions of this crate.
+pub mod Found

@@ -1,0 +1,142 @@
+//! The tables of a tile.
+
+ghost use Rattle.std.specs.Prelude.{◌≡◌, ◌+◌, ◌%◌, ◌<◌, ◌≤◌, length, IfOk, None};
+ghost use Rattle.tdm_network.specs.declared.routing.Outputs.{Outputs};
+ghost use Rattle.tdm_network.specs.Rows.{free_rows, installed, removed, injecting};
+ghost use Rattle.tdm_network.specs.Routing.{routed};
+ghost use Rattle.tdm_network.specs.Spots.{Spot, spots_of, spot_of, with_spot, without_label, told, IsInRange};
+
+use crate::entries::TableEntry;
+use crate::routing::{Outputs, delivered, out_flits};
+use crate::rows::Row;
+use soc_base::{Flit, Label, NoMemory};
+use std::alloc::Global;
+use std::marker::Model;
+
+/// The slot tables of a tile. Contracts see them as their rows, one for each table slot.
+#[derive(Drop)]
+pub struct SlotTables {
+    rows: Vec<Row>,
+}
+
+impl Model for SlotTables {
+    ghost use Rattle.std.specs.Prelude.{List, ◌<◌, ◌≤◌, vec_len};
+    ghost use Rattle.tdm_network.specs.declared.rows.Row.{Row};
+
+    ghost Value = { List Row };
+
+    ghost view = { λ t. t.rows.items };
+
+    ghost invariant = { λ t. (0 < vec_len t.rows) × (vec_len t.rows ≤ 64) };
+}
+
+impl SlotTables {
+    /// Makes tables of `table_slots` slots (1 to 64), whose places are all free.
+    pub fn new(alloc: Global, table_slots: u8) -> Result<SlotTables, NoMemory>
+        requires some { 0 < table_slots }
+        requires most { table_slots ≤ 64 }
+        ensures { IfOk result (λ made. made ≡ free_rows table_slots) }
+    {
+        let rows = vec![in alloc; Row::free(); usize::from(table_slots)]?;
+        Ok(SlotTables { rows })
+    }
+
+    /// Installs an entry for a label at the entry's own place, which has to be free. Every other place
+    /// stays as it was. Takes no memory.
+    pub fn install(&mut self, label: Label, entry: TableEntry)
+        requires range { IsInRange (length self.old) entry }
+        requires free { spots_of self.old (spot_of entry) ≡ None }
+        ensures rows { self.new ≡ installed label entry self.old }
+        ensures alone { (spot : Spot) → spots_of self.new spot ≡ with_spot label entry (spots_of self.old) spot }
+    {
+        let slot = entry.slot();
+        let row = &mut self.rows[usize::from(slot)];
+        row.add(label, entry);
+    }
+
+    /// Frees the places that a label holds, and no other. Takes no memory.
+    pub fn remove(&mut self, label: Label)
+        ensures rows { self.new ≡ removed label self.old }
+        ensures alone { (spot : Spot) → spots_of self.new spot ≡ without_label label (spots_of self.old) spot }
+    {
+        for row in self.rows.iter_mut() {
+            row.clear(label);
+        }
+    }
+
+    /// Answers the port that injects in a slot, counted from the first slot of the run, if the place in the
+    /// inject table isn't free.
+    pub fn inject_port(&self, slot: u64) -> Option<u8>
+        ensures { result ≡ injecting self.now slot }
+    {
+        let place = self.rows[self.row_number(slot)].inject?;
+        Some(place.what)
+    }
+
+    // The number of a slot's row.
+    fn row_number(&self, slot: u64) -> usize
+        ensures row { result ≡ slot % length self.now }
+        ensures within { result < length self.now }
+        ensures few { length self.now ≤ 64 }
+    {
+        (slot % self.rows.len() as u64) as usize
+    }
+
+    // The number of the row after that of a slot.
+    #[tactic(auto, using(crate::proofs::RowNumbers::first_again, crate::proofs::RowNumbers::one_more))]
+    fn row_after(&self, slot: u64, row: usize) -> usize
+        requires { row ≡ slot % length self.now }
+        ensures row { result ≡ (slot + 1) % length self.now }
+        ensures within { result < length self.now }
+    {
+        let rows = self.rows.len();
+        if row + 1 == rows {
+            return 0;
+        }
+        row + 1
+    }
+
+    /// Answers what a slot does with the flits on the inputs and the one that the tile injects: the flits
+    /// of the outputs in the slot after it, by that next slot's entries, and the delivery at the end of
+    /// this slot, by its own entry. Takes no memory.
+    pub fn route(&self, slot: u64, inputs: &[Flit; 7], injected: Flit) -> Outputs
+        ensures { result ≡ routed self.now slot inputs.now injected }
+    {
+        let now = self.row_number(slot);
+        let next = self.row_after(slot, now);
+        let row = &self.rows[next];
+        let links = out_flits(inputs, injected, &row.outs);
+        let deliver = delivered(inputs, self.rows[now].deliver);
+        Outputs { links, deliver }
+    }
+
+    /// Reads one place: of table 0, which port injects in a slot; of table 1, what output `row` carries in
+    /// it; of table 2, what is delivered in it. Answers the label and the entry, if the place isn't free.
+    pub fn place(&self, table: u8, row: u8, slot: u8) -> Option<(Label, TableEntry)>
+        requires table { table < 3 }
+        requires row { row < 7 }
+        requires slot { slot < length self.now }
+        ensures { result ≡ told table row slot self.now }
+    {
+        let places = &self.rows[usize::from(slot)];
+        match table {
+            0 => {
+                let entry = places.inject?;
+                let port = entry.what;
+                Some((entry.label, TableEntry::Inject { slot, port }))
+            }
+            1 => {
+                let entry = places.outs[usize::from(row)]?;
+                let source = entry.what;
+                let out = row;
+                Some((entry.label, TableEntry::Out { out, slot, source }))
+            }
+            _ => {
+                let entry = places.deliver?;
+                let input = entry.what.input;
+                let port = entry.what.port;
+                Some((entry.label, TableEntry::Deliver { slot, input, port }))
+            }
+        }
+    }
+}

@@ -1,0 +1,7 @@
+mod Opens
+mod Drawing
+mod Taking
+mod Leaving
+mod Sharing
+mod Closing
+mod Comparing
