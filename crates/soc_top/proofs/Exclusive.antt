@@ -5,9 +5,9 @@ use Rattle.platform_model.specs.declared.rules.PRule.{PRule}
 use Rattle.bundle_model.specs.declared.bundle.Bundle.{Bundle}
 use Rattle.bundle_model.specs.declared.rules.BRule.{BRule}
 use Rattle.platform_file.specs.Reading as platforms
-use Rattle.platform_file.proofs.Exclusive as platform
+use Rattle.platform_file.proofs.Laws as platform
 use Rattle.bundle_file.specs.Reading as bundles
-use Rattle.bundle_file.proofs.Exclusive as bundle
+use Rattle.bundle_file.proofs.Laws as bundle
 use Rattle.soc_io.specs.Reading.{Held}
 use Rattle.soc_top.specs.Files.{HoldsPlatform, BreaksPlatform, HoldsBundle, BreaksBundle}
 
