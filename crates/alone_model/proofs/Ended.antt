@@ -1,21 +1,15 @@
 -- A part that has ended changes no more.
-use Rattle.std.proofs.Common.{◌≡◌, ℕ, ◌+◌, ◌-◌, ◌≤◌, Bool, true, false, cond, ◌&&◌, List, [], ◌∷◌, map, refl, sym, ap, ap₂, ◌∙◌, arith}
-use Rattle.std.specs.List.{list_all}
-use Rattle.std.proofs.lemmas.Bool.{false≢true}
+use Rattle.std.proofs.Common.{◌≡◌, ℕ, Bool, true, false, cond, refl, ap}
 use Rattle.soc_base.specs.Time.{runs}
 use Rattle.soc_base.specs.Steps.{after_steps}
 use Rattle.soc_base.proofs.Laws.{steps_still}
 use Rattle.platform_model.specs.declared.platform.Platform.{Platform}
-use Rattle.platform_model.specs.declared.costs.Costs.{Costs}
-use Rattle.trace_log.specs.declared.row.PartEnd.{PartEnd}
-use Rattle.trace_log.specs.declared.row.PartEnd.TheVariants.{Live, Halt, Fault}
 use Rattle.trace_log.specs.Log.{has_ended}
-use Rattle.part_model.specs.declared.record.Place.{Place}
 use Rattle.part_model.specs.Part.{PartState}
 use Rattle.part_model.proofs.Laws.{ended_still}
 use Rattle.platform_model.specs.Platform.{frame_of}
 use Rattle.soc_base.specs.Slots.{slots_of}
-use Rattle.alone_model.specs.App.{AppPart, AppState, place_of, part_step, app_cycle}
+use Rattle.alone_model.specs.App.{AppPart, place_of, part_step}
 
 same_part : (b : Bool) (p : AppPart) (next : PartState) → next ≡ p.state → cond b (record p { state = next }) p ≡ p
 same_part true p next e = ap (λ (state : PartState). record p { state = state }) e

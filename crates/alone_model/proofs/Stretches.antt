@@ -1,6 +1,6 @@
 -- A part's cycles by stretches: those in which it doesn't run leave it, and in those in which it runs it
 -- has one part cycle after another.
-use Rattle.std.proofs.Common.{◌≡◌, ℕ, zero, suc, ◌+◌, ◌-◌, ◌*◌, ◌/◌, ◌%◌, ◌<◌, ◌≤◌, Bool, true, false, cond, nat_le, ◌&&◌, List, [], ◌∷◌, map, refl, sym, ap, ap₂, ◌∙◌, subst, max, inl, inr, arith}
+use Rattle.std.proofs.Common.{◌≡◌, ℕ, zero, suc, ◌+◌, ◌-◌, ◌*◌, ◌/◌, ◌%◌, ◌<◌, ◌≤◌, Bool, true, false, cond, nat_le, ◌&&◌, List, [], ◌∷◌, map, refl, sym, ap, ap₂, ◌∙◌, max, inl, inr, arith}
 use Rattle.std.proofs.lemmas.Nat.{div-mul-add}
 use Rattle.std.proofs.Math.Nat.{mod-eq-sub-div-mul, div-mul-le_self}
 use Rattle.std.proofs.lemmas.List.{map-id}
@@ -12,7 +12,7 @@ use Rattle.soc_base.specs.Steps.{after_steps}
 use Rattle.soc_base.proofs.Laws.{steps_split}
 use Rattle.platform_model.specs.declared.platform.Platform.{Platform}
 use Rattle.platform_model.specs.Platform.{frame_of}
-use Rattle.part_model.specs.Part.{PartState, part_cycle}
+use Rattle.part_model.specs.Part.{part_cycle}
 use Rattle.alone_model.specs.App.{AppPart, AppState, place_of, part_step, app_cycle}
 use Rattle.alone_model.specs.inner.Stretch.{part_ran}
 

@@ -1,4 +1,4 @@
-//! An application, stepped cycle by cycle.
+//! An application, whose parts go through their cycles each by itself.
 
 ghost use Rattle.std.specs.Prelude.{◌≡◌, ◌-◌, ◌≤◌, map, IfOk};
 ghost use Rattle.bundle_model.specs.WellFormed.{IsWellFormed};

@@ -5,7 +5,7 @@
 //! `alone` is the plain engine that computes it.
 #![tactic(auto)]
 
-/// An application, stepped cycle by cycle.
+/// An application, whose parts go through their cycles each by itself.
 mod application;
 /// The trace of an application alone.
 mod engine;

@@ -60,6 +60,7 @@ without part (Some other) = if other == part then None else Some other
 abbrev pub IsBelow : ℕ → Option ℕ → Type 0
 IsBelow bound place = IfSome place (λ part. part < bound)
 
+-- so do the parts of a list of places
 abbrev pub AreBelow : ℕ → List (Option ℕ) → Type 0
 AreBelow bound places = All (IsBelow bound) places
 

@@ -27,6 +27,7 @@ context_in held file frames offset part =
     let frame = get_or frames part (fresh_context 0) in
     if has part held then held_context offset file frame else frame
 
+-- the words of a part of a kernel, before the cycle at an offset
 abbrev pub context_of : KernelState → ℕ → ℕ → Context
 context_of k offset part = context_in k.held k.file k.frames offset part
 

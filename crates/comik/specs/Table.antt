@@ -19,6 +19,7 @@ abbrev pub saved_for : KernelState → ℕ → Option ℕ → KernelState
 saved_for k n None = k
 saved_for k n (Some part) = record k { frames = slice_set k.frames part (copied (frame_at k part) k.file n) }
 
+-- the same for the part that is held, if one is
 abbrev pub saved : KernelState → ℕ → KernelState
 saved k n = saved_for k n k.held
 
@@ -27,6 +28,7 @@ abbrev pub restored_for : KernelState → ℕ → Option ℕ → KernelState
 restored_for k n None = k
 restored_for k n (Some part) = record k { file = copied k.file (frame_at k part) n }
 
+-- the same for the part that is held, if one is
 abbrev pub restored : KernelState → ℕ → KernelState
 restored k n = restored_for k n k.held
 
@@ -34,6 +36,7 @@ restored k n = restored_for k n k.held
 abbrev pub saved_words : KernelState → ℕ → ℕ → KernelState
 saved_words k first n = after_steps (λ at k. saved k at) first n k
 
+-- likewise n words are restored
 abbrev pub restored_words : KernelState → ℕ → ℕ → KernelState
 restored_words k first n = after_steps (λ at k. restored k at) first n k
 

@@ -37,6 +37,7 @@ flits_known into = known into.ring
 abbrev pub name_of_out : LinkOut → LinkName
 name_of_out out = ring_of_producer out.ring
 
+-- the ring of a receiving end
 abbrev pub name_of_in : LinkIn → LinkName
 name_of_in into = ring_of_consumer into.ring
 

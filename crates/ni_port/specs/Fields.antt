@@ -3,6 +3,7 @@ use Rattle.std.specs.Prelude.{◌≡◌}
 use Rattle.ni_port.specs.declared.port.Port.TheInside.{Inside}
 use Rattle.ni_port.specs.SizedPort.{SizedPort, IsWithin}
 
+-- the port that its fields stand for
 abbrev pub shown : Inside → SizedPort
 shown fields = record {
   queue = fields.queue;

@@ -80,16 +80,16 @@ well_formed world place bundle sound is =
     let n = named_at world place bundle is in
     let P : Result Bundle BRule → Type 0 = λ judged. IfOk judged (IsWellFormed world.platform) in
     subst P n.judged (all_at (λ named. IfOk named.judged (IsWellFormed world.platform)) world.catalog place n.named
-        sound n.at)
+    sound n.at)
 
 few_enough : (world : World) (place : ℕ) (bundle : Bundle) → bundle_at world place ≡ Some bundle
     → sum_by (λ part. part.trace) bundle.parts ≤ most_rows world
 few_enough world place bundle is =
     let n = named_at world place bundle is in
     let at : slice_get (map (λ named. bundle_rows named.judged) world.catalog) place
-        ≡ Some (bundle_rows n.named.judged) =
-        slice_get-map (λ named. bundle_rows named.judged) world.catalog place
-        ∙ ap (option_map (λ named. bundle_rows named.judged)) n.at in
+    ≡ Some (bundle_rows n.named.judged) =
+    slice_get-map (λ named. bundle_rows named.judged) world.catalog place
+    ∙ ap (option_map (λ named. bundle_rows named.judged)) n.at in
     let P : ℕ → Type 0 = λ rows. rows ≤ most_rows world in
     subst P (ap bundle_rows n.judged) (max_reaches 0 _ place _ at)
 
@@ -107,7 +107,7 @@ All-unmap : {X Y : Type 0} (P : Y → Type 0) (f : X → Y) (xs : List X) → Al
 All-unmap P f [] all = All-nil (λ x. P (f x))
 All-unmap P f (x ∷ xs) all =
     All-cons (λ y. P (f y)) x xs (All-head P (f x) (map f xs) all)
-        (All-unmap P f xs (All-tail P (f x) (map f xs) all))
+    (All-unmap P f xs (All-tail P (f x) (map f xs) all))
 
 found_among : (ps : List AppPart) → IsDistinct nat_eq (map (λ p. p.part.tile) ps)
     → All (λ p. find (λ q. q.part.tile == p.part.tile) ps ≡ Some p) ps
@@ -115,9 +115,9 @@ found_among [] distinct = All-nil (λ p. find (λ q. q.part.tile == p.part.tile)
 found_among (p ∷ ps) distinct =
     let tiles : List ℕ = map (λ q. q.part.tile) ps in
     let others : All (λ r. nat_eq p.part.tile r.part.tile ≡ false) ps =
-        All-unmap (λ tile. nat_eq p.part.tile tile ≡ false) (λ q. q.part.tile) ps
-        (All-from_recursion (λ tile. nat_eq p.part.tile tile ≡ false) tiles
-        (IsDistinct-head nat_eq p.part.tile tiles distinct)) in
+    All-unmap (λ tile. nat_eq p.part.tile tile ≡ false) (λ q. q.part.tile) ps
+    (All-from_recursion (λ tile. nat_eq p.part.tile tile ≡ false) tiles
+    (IsDistinct-head nat_eq p.part.tile tiles distinct)) in
     let rest = found_among ps (IsDistinct-tail nat_eq p.part.tile tiles distinct) in
     let same : nat_eq p.part.tile p.part.tile ≡ true = grind arith in
     All-cons (λ r. find (λ q. q.part.tile == r.part.tile) (p ∷ ps) ≡ Some r) p ps
@@ -130,7 +130,7 @@ same_rows : {Y : Type 0} (f : Part → List Y) (g : AppPart → List Y) (ps : Li
 same_rows f g [] all = refl
 same_rows f g (p ∷ ps) all =
     ap (λ t. t ++ flat_map f (map (λ q. q.part) ps)) (All-head (λ q. f q.part ≡ g q) p ps all)
-        ∙ ap (λ t. g p ++ t) (same_rows f g ps (All-tail (λ q. f q.part ≡ g q) p ps all))
+    ∙ ap (λ t. g p ++ t) (same_rows f g ps (All-tail (λ q. f q.part ≡ g q) p ps all))
 
 lines_of : (ps : List AppPart) → flat_map part_text (map part_trace ps) ≡ flat_map (λ p. part_text (part_trace p)) ps
 lines_of [] = refl
@@ -141,8 +141,14 @@ rows_fit : (ps : List AppPart) → All (λ p. length p.state.log.rows ≤ p.part
 rows_fit [] all = omega arith
 rows_fit (p ∷ ps) all =
     let P : AppPart → Type 0 = λ q. length q.state.log.rows ≤ q.part.trace in
-    omega (arith, length-append p.state.log.rows (flat_map (λ q. q.state.log.rows) ps), All-head P p ps all, rows_fit
-        ps (All-tail P p ps all), sum_by-cons (λ part. part.trace) p.part (map (λ q. q.part) ps))
+    omega (
+      arith,
+      length-append p.state.log.rows (flat_map (λ q. q.state.log.rows) ps),
+      All-head P p ps all,
+      rows_fit
+          ps (All-tail P p ps all),
+      sum_by-cons (λ part. part.trace) p.part (map (λ q. q.part) ps),
+    )
 
 -- tile number n at place n
 record IsTileAt (tiles : List TileState) (n : ℕ) : Type 0 where
@@ -161,9 +167,9 @@ tile_at tiles count n numbered inside =
     let within : n < length (range_with_len 0 count) = omega (arith, length-range_with_len 0 count) in
     let number : get_or (range_with_len 0 count) n 0 ≡ n = omega (arith, get_or-range_with_len 0 count n 0 inside) in
     let in_range : slice_get (range_with_len 0 count) n ≡ Some n =
-        slice_get-get_or (range_with_len 0 count) n 0 within ∙ ap Some number in
+    slice_get-get_or (range_with_len 0 count) n 0 within ∙ ap Some number in
     tile_from tiles n (slice_get tiles n) refl (sym (slice_get-map (λ tile. tile.number) tiles n)
-        ∙ ap (λ numbers. slice_get numbers n) numbered ∙ in_range)
+    ∙ ap (λ numbers. slice_get numbers n) numbered ∙ in_range)
 
 log_from : (label : Label) (station : Option Station) (tile : TileState)
     → option_map (λ s. s.tile) station ≡ Some tile
@@ -182,14 +188,14 @@ alone_found : (world : World) (grant : Grant) (bundle : Bundle) (stop : ℕ) (p 
     → option_map (λ state. state.log) (alone_part world grant stop number) ≡ Some p.state.log
 alone_found world grant bundle stop p number known is found =
     let of_app : Option AppState → Option Log =
-        λ app. option_map (λ state. state.log)
-        (option_and_then (λ a. option_map (λ q. q.state) (find (λ q. q.part.tile == number) a.parts)) app) in
+    λ app. option_map (λ state. state.log)
+    (option_and_then (λ a. option_map (λ q. q.state) (find (λ q. q.part.tile == number) a.parts)) app) in
     let of_number : ℕ → Option Log =
-        λ n. option_map (λ state. state.log)
-        (option_map (λ q. q.state)
-        (find (λ q. q.part.tile == n) (alone_at world.platform bundle grant.start stop).parts)) in
+    λ n. option_map (λ state. state.log)
+    (option_map (λ q. q.state)
+    (find (λ q. q.part.tile == n) (alone_at world.platform bundle grant.start stop).parts)) in
     ap (λ b. of_app (option_map (λ bundle. alone_at world.platform bundle grant.start stop) b)) known
-        ∙ ap of_number is ∙ ap (λ q. option_map (λ state. state.log) (option_map (λ r. r.state) q)) found
+    ∙ ap of_number is ∙ ap (λ q. option_map (λ state. state.log) (option_map (λ r. r.state) q)) found
 
 -- the tile holds of a grant the log that its part there has alone up to a slot, if it has a part there
 abbrev HoldsLog : Setup → Grant → ℕ → TileState → Type 0
@@ -213,11 +219,11 @@ log_held : (setup : Setup) (end : RunEnd) (tiles : List TileState) (grant : Gran
 log_held setup end tiles grant bundle stop p logs known exists found =
     let t = tile_at tiles setup.world.platform.tiles p.part.tile logs.numbered exists in
     let at : option_map (λ s. s.tile) (slice_get end.stations p.part.tile) ≡ Some t.tile =
-        sym (slice_get-map (λ s. s.tile) end.stations p.part.tile) ∙ ap (λ ts. slice_get ts p.part.tile) logs.in_step
-        ∙ t.at in
+    sym (slice_get-map (λ s. s.tile) end.stations p.part.tile) ∙ ap (λ ts. slice_get ts p.part.tile) logs.in_step
+    ∙ t.at in
     let held = all_at (HoldsLog setup grant stop) tiles p.part.tile t.tile logs.alone t.at in
     log_from grant.label (slice_get end.stations p.part.tile) t.tile at ∙ held
-        ∙ alone_found setup.world grant bundle stop p t.tile.number known t.number found
+    ∙ alone_found setup.world grant bundle stop p t.tile.number known t.number found
 
 tiles_of_parts : (ps : List AppPart) → map (λ part. part.tile) (map (λ p. p.part) ps) ≡ map (λ p. p.part.tile) ps
 tiles_of_parts [] = refl
@@ -233,29 +239,34 @@ holds_for setup end tiles grant bundle sound logs known =
     let fine = well_formed setup.world grant.bundle bundle sound known in
     let AreFine : List Part → Type 0 = λ parts. All (IsWellFormedPart setup.world.platform) parts in
     let parts_fine = All-unmap (IsWellFormedPart setup.world.platform) (λ p. p.part) ps
-        (subst AreFine (sym same) fine.parts) in
+    (subst AreFine (sym same) fine.parts) in
     let tiles_same : map (λ part. part.tile) bundle.parts ≡ map (λ p. p.part.tile) ps =
-        ap (map (λ part. part.tile)) (sym same) ∙ tiles_of_parts ps in
+    ap (map (λ part. part.tile)) (sym same) ∙ tiles_of_parts ps in
     let found = found_among ps (subst (IsDistinct nat_eq) tiles_same fine.apart) in
     let held : All (λ p. log_on end.stations grant.label p.part ≡ Some p.state.log) ps =
-        λ k d inside. log_held setup end tiles grant bundle stop (get_or ps k d) logs known
-        (parts_fine k d inside).on_tile (found k d inside) in
+    λ k d inside. log_held setup end tiles grant bundle stop (get_or ps k d) logs known
+    (parts_fine k d inside).on_tile (found k d inside) in
     let row_lists : All (λ p. rows_on end.stations grant.label p.part ≡ p.state.log.rows) ps =
-        λ k d inside. ap (λ log. option_map_or (λ l. l.rows) log []) (held k d inside) in
+    λ k d inside. ap (λ log. option_map_or (λ l. l.rows) log []) (held k d inside) in
     let lines : All (λ p. line_on end.stations grant.label p.part ≡ part_text (part_trace p)) ps =
-        λ k d inside. ap (λ log. option_map_or
-        (λ l. part_text (record { tile = (get_or ps k d).part.tile; end = l.end; cut = l.cut })) log [])
-        (held k d inside) in
+    λ k d inside. ap (λ log. option_map_or
+    (λ l. part_text (record { tile = (get_or ps k d).part.tile; end = l.end; cut = l.cut })) log [])
+    (held k d inside) in
     let rows : flat_map (rows_on end.stations grant.label) bundle.parts ≡ flat_map (λ p. p.state.log.rows) ps =
-        ap (flat_map (rows_on end.stations grant.label)) (sym same)
-        ∙ same_rows (rows_on end.stations grant.label) (λ p. p.state.log.rows) ps row_lists in
+    ap (flat_map (rows_on end.stations grant.label)) (sym same)
+    ∙ same_rows (rows_on end.stations grant.label) (λ p. p.state.log.rows) ps row_lists in
     let few : sum_by (λ part. part.trace) (map (λ p. p.part) ps) ≡ sum_by (λ part. part.trace) bundle.parts =
-        ap (sum_by (λ part. part.trace)) same in
+    ap (sum_by (λ part. part.trace)) same in
     record {
       bundle = bundle;
       is_bundle = known;
-      fits = omega (arith, ap length rows, rows_fit ps (alone_fits setup.world.platform bundle grant.start stop), few,
-          few_enough setup.world grant.bundle bundle known);
+      fits = omega (
+        arith,
+        ap length rows,
+        rows_fit ps (alone_fits setup.world.platform bundle grant.start stop),
+        few,
+        few_enough setup.world grant.bundle bundle known,
+      );
       rows = rows;
       lines = ap (flat_map (line_on end.stations grant.label)) (sym same)
           ∙ same_rows (line_on end.stations grant.label) (λ p. part_text (part_trace p)) ps lines ∙ sym (lines_of ps);
@@ -270,7 +281,7 @@ holds_alone setup end sound legal in_step =
     λ k d inside.
     let (bundle, known) = some_of (bundle_at setup.world (get_or grants k d).bundle) (apart.known k d inside) in
     holds_for setup end (lockstep setup.world setup.loads grants setup.budget).tiles (get_or grants k d) bundle
-        sound.catalog (record {
+    sound.catalog (record {
       in_step = in_step;
       numbered = tiles_numbered setup.world setup.loads grants setup.budget (sound_world setup sound) apart of_loads;
       alone = λ m e within. logs_are_alone setup.world setup.loads grants setup.budget (sound_world setup sound) apart

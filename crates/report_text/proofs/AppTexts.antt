@@ -25,19 +25,22 @@ pub app_text_of : (setup : Setup) (stations : List Station) (grant : Grant) (par
     → (alone : HoldsAlone setup stations grant) → parts ≡ alone.bundle.parts
     → IsPermutation (flat_map (rows_on stations grant.label) parts) rows → IsSorted row_cmp rows
     → IsAppText setup grant (app_line setup grant ++ flat_map row_text rows
-        ++ flat_map (line_on stations grant.label) parts)
+    ++ flat_map (line_on stations grant.label) parts)
 unfolding app_text app_line
 app_text_of setup stations grant parts rows alone is merged ordered =
     let app = alone_at setup.world.platform alone.bundle grant.start (stop_slot setup.budget grant) in
     let P : List TraceRow → Type 0 = λ kept. IsPermutation kept rows in
     let lines : flat_map (line_on stations grant.label) parts ≡ flat_map part_text (map part_trace app.parts) =
-        ap (flat_map (line_on stations grant.label)) is ∙ alone.lines in
+    ap (flat_map (line_on stations grant.label)) is ∙ alone.lines in
     record {
       bundle = alone.bundle;
       is_bundle = alone.is_bundle;
       trace = record { rows = rows; parts = map part_trace app.parts };
-      is_trace = record { rows = subst P (ap (flat_map (rows_on stations grant.label)) is ∙ alone.rows) merged;
-          in_order = ordered; parts = refl };
+      is_trace = record {
+        rows = subst P (ap (flat_map (rows_on stations grant.label)) is ∙ alone.rows) merged;
+        in_order = ordered;
+        parts = refl;
+      };
       is_text = ap (λ t. app_line setup grant ++ flat_map row_text rows ++ t) lines
           ∙ append_assoc (app_line setup grant) (flat_map row_text rows)
           (flat_map part_text (map part_trace app.parts));
@@ -89,12 +92,12 @@ granted_at P setup history i d inside all =
 -- the grants of one entry more
 pub grants_in_more : (setup : Setup) (history entries : List Entry) (i : ℕ) (d : Entry) → i < length entries
     → grants_in setup history (take (i + 1) entries) ≡ grants_in setup history (take i entries)
-        ++ option_to_list (grant_by setup history (get_or entries i d).reply)
+    ++ option_to_list (grant_by setup history (get_or entries i d).reply)
 unfolding grants_in
 grants_in_more setup history entries i d inside =
     let h : Entry → Option Grant = λ entry. grant_by setup history entry.reply in
     ap (filter_map h) (take_more entries i d inside) ∙ filter_map-append h (take i entries) (get_or entries i d ∷ [])
-        ∙ ap (λ t. filter_map h (take i entries) ++ t) (given_one (h (get_or entries i d)))
+    ∙ ap (λ t. filter_map h (take i entries) ++ t) (given_one (h (get_or entries i d)))
 
 -- the texts of the grants of one entry more
 pub apps_more : (setup : Setup) (history : List Entry) (i : ℕ) (d : Entry) (texts others : List (List ℕ))

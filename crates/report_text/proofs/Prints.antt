@@ -16,8 +16,8 @@ pub prints_then : (one other : List ℕ) (mid : Option (List ℕ)) (between : �
     → GoesOn (one ++ other) mid between stopped new now failed
 prints_then one other mid between stopped late later over new now failed first next =
     λ text old before so_far. let P : List ℕ → Type 0 =
-        λ t. Printed t old before new now failed in subst P (append_assoc text one other)
-        (next (text ++ one) old before (first text old before so_far))
+    λ t. Printed t old before new now failed in subst P (append_assoc text one other)
+    (next (text ++ one) old before (first text old before so_far))
 
 -- the same text
 pub prints_same : (one other : List ℕ) (mid : Option (List ℕ)) (between : ℕ) (stopped : Bool) (new : Option (List ℕ))
@@ -31,4 +31,4 @@ pub prints_none : (mid : Option (List ℕ)) (between : ℕ) (stopped : Bool)
     → GoesOn [] mid between stopped mid between stopped
 prints_none mid between stopped =
     λ text old before so_far. let P : List ℕ → Type 0 =
-        λ t. Printed t old before mid between stopped in subst P (sym (append-nil text)) so_far
+    λ t. Printed t old before mid between stopped in subst P (sym (append-nil text)) so_far

@@ -21,22 +21,22 @@ below_all : (xs : List ℕ) (n q : ℕ) → All (λ x. x < n) xs → list_any (n
 below_all [] n q all found = absurd (false≢true found)
 below_all (x ∷ xs) n q all found =
     equal_or_later q x n (list_any (nat_eq q) xs) (All-head (λ y. y < n) x xs all)
-        (below_all xs n q (All-tail (λ y. y < n) x xs all)) found
+    (below_all xs n q (All-tail (λ y. y < n) x xs all)) found
 
 pub few_rows : (platform : Platform) (bundle : Bundle) → IsWellFormed platform bundle
     → sum_by (λ part. part.trace) bundle.parts < 2 ^ 64
 few_rows platform bundle fine =
     let tiles : List ℕ = map (λ part. part.tile) bundle.parts in
     let on_tiles : All (λ tile. tile < platform.tiles) tiles =
-        All-map (λ tile. tile < platform.tiles) (λ part. part.tile) bundle.parts
-        (All-weaker (IsWellFormedPart platform) (λ part. part.tile < platform.tiles) (λ part is. is.on_tile)
-        bundle.parts fine.parts) in
+    All-map (λ tile. tile < platform.tiles) (λ part. part.tile) bundle.parts
+    (All-weaker (IsWellFormedPart platform) (λ part. part.tile < platform.tiles) (λ part is. is.on_tile)
+    bundle.parts fine.parts) in
     let few : length tiles ≤ platform.tiles =
-        length-le_from_distinct_below tiles platform.tiles fine.apart
-        (λ q. below_all tiles platform.tiles q on_tiles) in
+    length-le_from_distinct_below tiles platform.tiles fine.apart
+    (λ q. below_all tiles platform.tiles q on_tiles) in
     let traces = sum_by-le (λ part. part.trace) MOST_ROWS bundle.parts
-        (All-weaker (IsWellFormedPart platform) (λ part. part.trace ≤ 4096) (λ part is. is.trace_fits) bundle.parts
-        fine.parts) in
+    (All-weaker (IsWellFormedPart platform) (λ part. part.trace ≤ 4096) (λ part is. is.trace_fits) bundle.parts
+    fine.parts) in
     let same : length tiles ≡ length bundle.parts = length-map bundle.parts (λ part. part.tile) in
     omega (arith, few, traces, same, platform.tiles_in_range.1)
 
@@ -46,8 +46,8 @@ pub room_for_more : {X Y : Type 0} (f : X → List Y) (xs : List X) (i : ℕ) (x
     → length old + length (f x) ≤ length (flat_map f xs)
 room_for_more f xs i x old inside is before =
     let size : length old ≡ sum_by (λ y. length (f y)) (take i xs) =
-        length_permutation _ _ before ∙ length-flat_map f (take i xs) in
+    length_permutation _ _ before ∙ length-flat_map f (take i xs) in
     let step : sum_by (λ y. length (f y)) (take i xs) + length (f (get_or xs i x)) ≤ sum_by (λ y. length (f y)) xs =
-        sum_by_more_le (λ y. length (f y)) xs i x inside in
+    sum_by_more_le (λ y. length (f y)) xs i x inside in
     let item : length (f x) ≡ length (f (get_or xs i x)) = ap (λ y. length (f y)) is in
     omega (arith, size, step, item, length-flat_map f xs)

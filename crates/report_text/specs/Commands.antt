@@ -48,7 +48,7 @@ reply_text slot_cycles (Malformed rule) = codes "malformed " ++ bundle_rule_text
 reply_text slot_cycles (Past horizon) = codes "past " ++ decimal (horizon * slot_cycles)
 reply_text slot_cycles (Taken resource owner free_from) =
     codes "taken " ++ resource_text resource ++ codes " by " ++ label_text owner ++ codes " free "
-        ++ free_text slot_cycles free_from
+    ++ free_text slot_cycles free_from
 reply_text slot_cycles (Granted label start) =
     codes "granted " ++ label_text label ++ codes " at " ++ decimal (start * slot_cycles)
 reply_text slot_cycles NoLoad = codes "no load"

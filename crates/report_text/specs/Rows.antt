@@ -27,7 +27,7 @@ cause_text Break = codes "break"
 unfoldable pub row_text : TraceRow → List ℕ
 row_text row =
     decimal row.cycle ++ codes " " ++ decimal row.tile ++ codes " " ++ kind_text row.kind ++ codes " "
-        ++ hex_text row.value ++ line_end
+    ++ hex_text row.value ++ line_end
 
 -- how a part stands, as in `halt 00000000 at 78`
 abbrev pub end_text : PartEnd → List ℕ

@@ -72,8 +72,14 @@ pub record IsRead (bytes : List ℕ) (room done number count : ℕ) (commands : 
 
 pub read_none : (bytes : List ℕ) (room : ℕ) → IsRead bytes room 0 1 0 []
 read_none bytes room =
-    record { numbered = refl; few = omega arith; fault = refl; counted = omega arith; kept = refl;
-    full = omega arith }
+    record {
+      numbered = refl;
+      few = omega arith;
+      fault = refl;
+      counted = omega arith;
+      kept = refl;
+      full = omega arith;
+    }
 
 count_more : (command : Option Command) (tail : List Command)
     → length (cons_option command tail) ≡ length (cons_option command []) + length tail
@@ -87,7 +93,7 @@ at_most_one (Some command) = omega arith
 more_kept : (room count : ℕ) (commands tail : List Command) (command : Option Command) (has_room : Bool)
     → nat_lt count room ≡ has_room → length commands ≡ min count room
     → take room (commands ++ cons_option command tail)
-        ≡ take room (cond has_room (commands ++ cons_option command []) commands ++ tail)
+    ≡ take room (cond has_room (commands ++ cons_option command []) commands ++ tail)
 more_kept room count commands tail None true is full = ap (λ l. take room (l ++ tail)) (sym (append-nil commands))
 more_kept room count commands tail None false is full = refl
 more_kept room count commands tail (Some command) true is full =
@@ -100,7 +106,7 @@ more_kept room count commands tail (Some command) false is full =
 more_full : (room count : ℕ) (commands : List Command) (command : Option Command) (has_room : Bool)
     → nat_lt count room ≡ has_room → length commands ≡ min count room
     → length (cond has_room (commands ++ cons_option command []) commands)
-        ≡ min (count + length (cons_option command [])) room
+    ≡ min (count + length (cons_option command [])) room
 more_full room count commands command true is full =
     let under = ltb-true count room is in
     let one = at_most_one command in
@@ -123,14 +129,14 @@ pub read_more : (bytes : List ℕ) (room done number count : ℕ) (commands : Li
     → IsRead bytes room done number count commands → IsNext bytes done piece
     → line_meaning (strip_carriage_return piece) ≡ Ok command
     → IsRead bytes room (done + 1) (number + 1) (count + length (cons_option command []))
-        (kept_with commands count room command)
+    (kept_with commands count room command)
 read_more bytes room done number count commands piece command read next meant =
     let at = left_at bytes done piece next in
     let tail = drop (done + 1) (pieces_of bytes) in
     let one = at_most_one command in
     let more = count_more command (commands_in tail) in
     let commands_at : commands_in (drop done (pieces_of bytes)) ≡ cons_option command (commands_in tail) =
-        ap commands_in at ∙ ap (λ m. cons_option (command_in m) (commands_in tail)) meant in
+    ap commands_in at ∙ ap (λ m. cons_option (command_in m) (commands_in tail)) meant in
     record {
       numbered = omega (arith, read.numbered);
       few = omega (arith, read.few, one);
@@ -149,7 +155,7 @@ read_fault bytes room done number count commands piece rule read next meant =
     let at = left_at bytes done piece next in
     let tail = drop (done + 1) (pieces_of bytes) in
     let fault : fault_in 1 (pieces_of bytes) ≡ Some (Line number rule) =
-        read.fault ∙ ap (fault_in number) at ∙ ap (λ m. fault_or m number (fault_in (number + 1) tail)) meant in
+    read.fault ∙ ap (fault_in number) at ∙ ap (λ m. fault_or m number (fault_in (number + 1) tail)) meant in
     whole bytes room ∙ ap (λ f. meant_by f room (commands_in (pieces_of bytes))) fault
 
 no_fault : (bytes : List ℕ) (room done number count : ℕ) (commands : List Command)
@@ -157,7 +163,7 @@ no_fault : (bytes : List ℕ) (room done number count : ℕ) (commands : List Co
     → script_meant bytes room ≡ within_room room (commands_in (pieces_of bytes))
 no_fault bytes room done number count commands read all =
     whole bytes room ∙ ap (λ f. meant_by f room (commands_in (pieces_of bytes))) (read.fault
-        ∙ at_drop_all (fault_in number) (pieces_of bytes) done (omega (arith, all)))
+    ∙ at_drop_all (fault_in number) (pieces_of bytes) done (omega (arith, all)))
 
 count_all : (bytes : List ℕ) (room done number count : ℕ) (commands : List Command)
     → IsRead bytes room done number count commands → done ≡ length (pieces_of bytes)
@@ -172,8 +178,8 @@ pub read_too_many : (bytes : List ℕ) (room done number count : ℕ) (commands 
 read_too_many bytes room done number count commands read all over =
     let same = count_all bytes room done number count commands read all in
     no_fault bytes room done number count commands read all
-        ∙ ap (λ full. cond full (Err TooMany) (Ok (commands_in (pieces_of bytes))))
-        (lt-ltb room _ (omega (arith, same, over)))
+    ∙ ap (λ full. cond full (Err TooMany) (Ok (commands_in (pieces_of bytes))))
+    (lt-ltb room _ (omega (arith, same, over)))
 
 pub read_all : (bytes : List ℕ) (room done number count : ℕ) (commands : List Command)
     → IsRead bytes room done number count commands → done ≡ length (pieces_of bytes) → count ≤ room
@@ -181,10 +187,10 @@ pub read_all : (bytes : List ℕ) (room done number count : ℕ) (commands : Lis
 read_all bytes room done number count commands read all within =
     let same = count_all bytes room done number count commands read all in
     let none = at_drop_all (λ pieces. take room (commands ++ commands_in pieces)) (pieces_of bytes) done
-        (omega (arith, all)) in
+    (omega (arith, all)) in
     let kept : commands_in (pieces_of bytes) ≡ commands =
     sym (take_all room (commands_in (pieces_of bytes)) (omega (arith, same, within))) ∙ read.kept ∙ none
     ∙ ap (take room) (append-nil commands) ∙ take_all room commands (omega (arith, read.full, within)) in
     no_fault bytes room done number count commands read all
-        ∙ ap (λ full. cond full (Err TooMany) (Ok (commands_in (pieces_of bytes))))
-        (le-ltb room _ (omega (arith, same, within))) ∙ ap Ok kept
+    ∙ ap (λ full. cond full (Err TooMany) (Ok (commands_in (pieces_of bytes))))
+    (le-ltb room _ (omega (arith, same, within))) ∙ ap Ok kept

@@ -47,7 +47,7 @@ at_first setup history none = rw none (let first : IsAtTurn setup 0 1 [] = recor
 
 entry_is : (session index : ℕ) (reply : Option Reply) (entry : Entry)
     → Some entry ≡ option_map
-        (λ reply. let e : Entry = record { session = session; index = index; reply = reply } in e) reply
+    (λ reply. let e : Entry = record { session = session; index = index; reply = reply } in e) reply
     → (entry.session ≡ session) × (entry.index ≡ index)
 entry_is session index None entry is = cc
 entry_is session index (Some reply) entry is =
@@ -64,13 +64,13 @@ count_same : (history : List Entry) (entry : Entry) (session : ℕ) → entry.se
     → count_of (history ++ entry ∷ []) session ≡ count_of history session + 1
 count_same history entry session same =
     sum_by_push (λ (e : Entry). cond (e.session == session) 1 0) history entry
-        ∙ ap (λ b. count_of history session + cond b 1 0) (eq-eqb entry.session session same)
+    ∙ ap (λ b. count_of history session + cond b 1 0) (eq-eqb entry.session session same)
 
 count_other : (history : List Entry) (entry : Entry) (session : ℕ) → (entry.session ≡ session → ⊥)
     → count_of (history ++ entry ∷ []) session ≡ count_of history session
 count_other history entry session differs =
     let more = sum_by_push (λ (e : Entry). cond (e.session == session) 1 0) history entry
-        ∙ ap (λ b. count_of history session + cond b 1 0) (ne_eqb entry.session session differs) in
+    ∙ ap (λ b. count_of history session + cond b 1 0) (ne_eqb entry.session session differs) in
     omega (arith, more)
 
 before_next : (rounds session : ℕ) (history : List Entry) → All (ComesBeforeTurn rounds session) history
@@ -78,7 +78,7 @@ before_next : (rounds session : ℕ) (history : List Entry) → All (ComesBefore
 before_next rounds session history before =
     All-weaker (ComesBeforeTurn rounds session) (ComesBeforeTurn rounds (session + 1))
     (λ entry comes. elim comes as (λ _. ComesBeforeTurn rounds (session + 1) entry)
-        [ inl low ↦ inl low | inr here ↦ inr (here.0, omega (arith, here.1)) ])
+    [ inl low ↦ inl low | inr here ↦ inr (here.0, omega (arith, here.1)) ])
     history before
 
 turn_none : (setup : Setup) (rounds session : ℕ) (history : List Entry) → IsSession setup session
@@ -89,11 +89,11 @@ turn_none setup rounds session history is at used = record {
   apart = at.apart;
   earlier = λ other other_is low. elim (cases_order other session) as
       (λ _. IsCounted setup (rounds + 1) history other) [
-    | inl same ↦ let none_left : length (commands_of setup other) ≤ count_of history other =
-        rw same used in omega (arith, at.later other other_is (omega arith), none_left)
-    | inr order ↦ at.earlier other other_is
-        (elim order as (λ _. other < session) [ inl less ↦ less | inr more ↦ absurd (omega arith) ])
-  ];
+        | inl same ↦ let none_left : length (commands_of setup other) ≤ count_of history other =
+            rw same used in omega (arith, at.later other other_is (omega arith), none_left)
+        | inr order ↦ at.earlier other other_is
+            (elim order as (λ _. other < session) [ inl less ↦ less | inr more ↦ absurd (omega arith) ])
+      ];
   later = λ other other_is high. at.later other other_is (omega arith);
   before = before_next rounds session history at.before;
   in_rounds = at.in_rounds;
@@ -118,22 +118,32 @@ turn_one setup rounds session history entry is at made =
       apart = made.apart;
       earlier = λ other other_is low. elim (cases_order other session) as
           (λ _. IsCounted setup (rounds + 1) new other) [
-        | inl same ↦ let some_left : count_of history other < length (commands_of setup other) =
-            rw same (made.left) in omega
-            (arith, count_same history entry other (made.session_is ∙ sym same), at.later other other_is
-            (omega arith), some_left)
-        | inr order ↦ let less : other < session =
-            elim order as (λ _. other < session) [ inl less ↦ less | inr more ↦ absurd (omega arith) ] in count_other
-            history entry other (λ same. omega (arith, made.session_is)) ∙ at.earlier other other_is less
-      ];
+            | inl same ↦ let some_left : count_of history other < length (commands_of setup other) =
+                rw same (made.left) in omega (
+                  arith,
+                  count_same history entry other (made.session_is ∙ sym same),
+                  at.later other other_is
+                      (omega arith),
+                  some_left,
+                )
+            | inr order ↦ let less : other < session =
+                elim order as (λ _. other < session) [ inl less ↦ less | inr more ↦ absurd (omega arith) ] in
+                count_other
+                history entry other (λ same. omega (arith, made.session_is)) ∙ at.earlier other other_is less
+          ];
       later = λ other other_is high. count_other history entry other (λ same. omega (arith, made.session_is))
           ∙ at.later other other_is (omega arith);
       before = All-push (ComesBeforeTurn rounds (session + 1)) history entry
           (before_next rounds session history at.before) (inr (index, omega (arith, made.session_is)));
       in_rounds = all_pairs_push ComesBefore history entry at.in_rounds
-          (λ k d inside. elim (at.before k d inside) as (λ _. ComesBefore (get_or history k d) entry)
-              [ inl low ↦ inl (omega arith) | inr here ↦ inr (here.0
-              ∙ sym index, omega (arith, here.1, made.session_is)) ]);
+          (λ k d inside. elim (at.before k d inside) as (λ _. ComesBefore (get_or history k d) entry) [
+            | inl low ↦ inl (omega arith)
+            | inr here ↦ inr (
+              here.0
+                  ∙ sym index,
+              omega (arith, here.1, made.session_is),
+            )
+          ]);
     }
 
 -- what a commit of a session answers, and what its history then is
@@ -149,14 +159,15 @@ pub turn_taken : (setup : Setup) (rounds session : ℕ) (history : List Entry) (
     → IsAtTurn setup rounds (session + 1) (history ++ option_to_list new)
 turn_taken setup rounds session history None made at =
     rw append-nil (turn_none setup rounds session history made.session_is at
-        (leb-true (length (commands_of setup session)) (count_of history session) (made.used_up.0 refl)))
+    (leb-true (length (commands_of setup session)) (count_of history session) (made.used_up.0 refl)))
 turn_taken setup rounds session history (Some entry) made at =
     let left : count_of history session < length (commands_of setup session) =
-        elim (cases_lt (count_of history session) (length (commands_of setup session))) as
-        (λ _. count_of history session < length (commands_of setup session))
-        [ inl less ↦ less | inr over ↦ absurd
-        (true≢false (made.used_up.1 (le-leb (length (commands_of setup session)) (count_of history session) over)))
-        ] in
+    elim (cases_lt (count_of history session) (length (commands_of setup session))) as
+    (λ _. count_of history session < length (commands_of setup session)) [
+      | inl less ↦ less
+      | inr over ↦ absurd
+          (true≢false (made.used_up.1 (le-leb (length (commands_of setup session)) (count_of history session) over)))
+    ] in
     let named = next_is setup history session entry made.entry in
     turn_one setup rounds session history entry made.session_is at (record {
       left = left;
@@ -189,21 +200,24 @@ few_by scripts k None is = omega arith
 few_by scripts k (Some script) is =
     let read = get_or_from_slice_get scripts k script script is in
     rw (← ap (λ (s : Script). length s.commands) read)
-        (get_or-le-sum_by (λ (s : Script). length s.commands) scripts k script (slice_get_within scripts k script is))
+    (get_or-le-sum_by (λ (s : Script). length s.commands) scripts k script (slice_get_within scripts k script is))
 
 few_commands : (setup : Setup) → IsSound setup → (session : ℕ) → IsSession setup session
     → length (commands_of setup session) ≤ MOST_COMMANDS
 few_commands setup sound session is =
     rw (ne_eqb session 0 (λ e. omega (arith, is.0)))
-        (omega (arith, few_by setup.scripts (session - 1) (slice_get setup.scripts (session - 1)) refl,
-        sound.few_commands))
+    (omega (
+      arith,
+      few_by setup.scripts (session - 1) (slice_get setup.scripts (session - 1)) refl,
+      sound.few_commands,
+    ))
 
 complete_after : (setup : Setup) (history : List Entry) → IsSound setup → IsAtTurn setup MOST_COMMANDS 1 history
     → IsComplete setup history
 complete_after setup history sound at =
     all_range (λ session. count_of history session ≡ length (commands_of setup session)) 1 (length setup.scripts)
     (λ session low high. let is : IsSession setup session = (omega arith, omega arith) in omega
-        (arith, at.later session is low, few_commands setup sound session is))
+    (arith, at.later session is low, few_commands setup sound session is))
 
 pub in_full : (setup : Setup) (rounds : ℕ) (history : List Entry) → IsSound setup → rounds ≡ MOST_COMMANDS
     → IsAtTurn setup rounds 1 history → IsRoundRobin setup history
@@ -218,7 +232,7 @@ complete_idle : (setup : Setup) (rounds : ℕ) (history : List Entry) → IsAtTu
 complete_idle setup rounds history at more =
     all_range (λ session. count_of history session ≡ length (commands_of setup session)) 1 (length setup.scripts)
     (λ session low high. let is : IsSession setup session = (omega arith, omega arith) in omega
-        (arith, at.later session is low, more.later session is low))
+    (arith, at.later session is low, more.later session is low))
 
 -- a round that adds nothing is the last one
 pub in_full_idle : (old new : Setup) (rounds : ℕ) (before after : List Entry) → new ≡ old → after ≡ before

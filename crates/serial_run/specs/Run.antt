@@ -3,6 +3,7 @@ use Rattle.std.specs.Prelude.{◌≡◌, ℕ, ◌*◌, ◌≤◌, List, map}
 use Rattle.soc_base.specs.declared.limits.TheConstants.{LAST_CYCLE}
 use Rattle.bundle_model.specs.declared.world.World.{World}
 use Rattle.bundle_model.specs.declared.world.LoadName.{LoadName}
+use Rattle.bundle_model.specs.declared.world.Grant.{Grant}
 use Rattle.bundle_model.specs.declared.world.Schedule.{Schedule}
 use Rattle.bundle_model.specs.Grants.{IsApart}
 use Rattle.bundle_model.specs.World.{IsSoundWorld, AreOfLoads}
@@ -29,6 +30,12 @@ pub record CanFinish (world : World) (schedule : Schedule) (until : ℕ) (machin
   pub of_loads : AreOfLoads loads schedule.grants.items
   pub reached : until ≤ schedule.horizon
   pub bounded : schedule.horizon * world.platform.slot_cycles ≤ LAST_CYCLE
+
+-- the stations hold the tiles of a machine that began with fresh ones and is in step up to a slot
+abbrev pub FinishesInStep : World → List Grant → ℕ → Machine → List Station → Type 0
+FinishesInStep world grants until start stations =
+    (loads : List LoadName) → start ≡ fresh_machine world loads
+    → tiles_of stations ≡ (lockstep world loads grants until).tiles
 
 -- the tiles are those of the machine after the grants of a history, in step at the end of the run
 abbrev pub EndsInStep : Setup → RunEnd → Type 0

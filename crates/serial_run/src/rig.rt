@@ -1,13 +1,11 @@
 //! The tiles of a platform, slot by slot.
 
-ghost use Rattle.std.specs.Prelude.{◌≡◌, List, map, All, IfOk};
-ghost use Rattle.bundle_model.specs.declared.world.LoadName.{LoadName};
+ghost use Rattle.std.specs.Prelude.{◌≡◌, map, All, IfOk};
 ghost use Rattle.bundle_model.specs.World.{IsSoundWorld};
 ghost use Rattle.tile_core.specs.Fit.{IsReady, IsUnderway};
-ghost use Rattle.tile_core.specs.Slot.{tile_slot};
-ghost use Rattle.tile_core.specs.Lockstep.{fresh_machine, machine_slot, lockstep};
-ghost use Rattle.serial_run.specs.Run.{CanFinish, tiles_of};
-ghost use Rattle.serial_run.specs.inner.Stations.{station_slot};
+ghost use Rattle.tile_core.specs.Lockstep.{fresh_machine, machine_slot};
+ghost use Rattle.serial_run.specs.Run.{CanFinish, FinishesInStep};
+ghost use Rattle.serial_run.specs.inner.Stations.{station_slot, StaysUnderway};
 
 use bundle_model::{LoadName, Schedule, World};
 use soc_base::{Flit, NoMemory};
@@ -49,7 +47,7 @@ fn step(station: &mut Station, world: &World, schedule: &Schedule)
 fn step_all(stations: &mut [Station], world: &World, schedule: &Schedule)
     requires { All (λ station. IsReady world.now schedule.now station.tile) stations.old }
     ensures slot { stations.new ≡ map (station_slot world.now schedule.now.grants.items) stations.old }
-    ensures underway { All (λ station. IsUnderway world.now schedule.now (tile_slot world.now schedule.now.grants.items station.tile)) stations.old }
+    ensures underway { All (λ station. StaysUnderway world.now schedule.now station.tile) stations.old }
 {
     for station in stations.iter_mut() {
         step(station, world, schedule);
@@ -76,7 +74,7 @@ impl Rig {
     fn slot(&mut self, world: &World, schedule: &Schedule)
         requires { All (IsReady world.now schedule.now) self.old.tiles }
         ensures slot { self.new ≡ machine_slot world.now schedule.now.grants.items self.old }
-        ensures underway { All (λ tile. IsUnderway world.now schedule.now (tile_slot world.now schedule.now.grants.items tile)) self.old.tiles }
+        ensures underway { All (StaysUnderway world.now schedule.now) self.old.tiles }
     {
         step_all(self.stations.as_mut_slice(), world, schedule);
     }
@@ -86,7 +84,7 @@ impl Rig {
     #[tactic(auto, using(soc_base::proofs::Laws::steps_none, soc_base::proofs::Laws::steps_more, crate::proofs::Underway::all_ready, crate::proofs::Underway::underway_more))]
     pub fn finish(mut self, world: &World, schedule: &Schedule, until: u64) -> Vec<Station>
         requires { CanFinish world.now schedule.now until self }
-        ensures { (loads : List LoadName) → self ≡ fresh_machine world.now loads → tiles_of result.items ≡ (lockstep world.now loads schedule.now.grants.items until).tiles }
+        ensures { FinishesInStep world.now schedule.now.grants.items until self result.items }
     {
         for _slot in 0..until {
             self.slot(world, schedule);

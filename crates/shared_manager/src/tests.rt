@@ -12,7 +12,7 @@ ghost use Rattle.vep_manager.specs.Setup.{IsSound};
 
 use crate::{Pass, SharedManager};
 use bundle_model::{Bundle, LoadName, Named, RawBundle, RawPart, Schedule, World, check};
-use platform_model::{Platform, RawCosts, RawPlatform};
+use platform_model::Platform;
 use script_file::{Command, Script};
 use soc_base::{Items, Label, Text};
 use std::alloc::Global;
@@ -20,36 +20,6 @@ use std::process::Abort;
 use std::sync::Wait;
 use std::test::Fail;
 use vep_manager::{Entry, Manager, Reply, Setup};
-
-// A platform of one tile.
-fn platform(alloc: Global) -> Result<Platform, Fail> {
-    let costs = RawCosts {
-        integer: 1,
-        mul: 3,
-        div: 34,
-        load: 2,
-        store: 2,
-        taken: 3,
-        untaken: 1,
-        jump: 3,
-        device: 4,
-        system: 1,
-    };
-    let raw = RawPlatform {
-        tiles: 1,
-        mem_bytes: 4096,
-        slot_cycles: 8,
-        table_slots: 8,
-        kernel_cycles: 72,
-        partition_cycles: 56,
-        partition_slots: 2,
-        ports: 2,
-        queue: 8,
-        links: Items::new(alloc),
-        costs,
-    };
-    Ok(Platform::check(alloc, &raw)?)
-}
 
 // A bundle of one part that ends at once.
 fn bundle(alloc: Global, platform: &Platform) -> Result<Bundle, Fail>
@@ -80,7 +50,7 @@ fn world(alloc: Global) -> Result<World, Fail>
     ensures one { IfOk result (λ world. (judged : Result Bundle BRule)
         × (world.catalog ≡ record { name = codes "app"; judged = judged } ∷ [])) }
 {
-    let platform = platform(alloc)?;
+    let platform = Platform::plain(alloc)?;
     let named = Named {
         name: Text::from_str(alloc, "app")?,
         judged: Ok(bundle(alloc, &platform)?),

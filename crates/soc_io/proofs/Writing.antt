@@ -1,8 +1,6 @@
 -- How what was printed goes on.
-use Rattle.std.proofs.Common.{◌≡◌, ℕ, ◌≤◌, ◌<◌, ◌+◌, Bool, true, false, List, [], ◌∷◌, ◌++◌, take, drop, length, get_or, Option, Some, None, Result, Ok, Err, is_err, if◌then◌else◌, append-nil, append_assoc, refl, sym, subst, ◌∙◌, ap, arith}
-use Rattle.std.proofs.lemmas.List.{take-append-drop, take_all}
-use Rattle.std.proofs.lemmas.Grind.{take_at_read, flat_map-append}
-use Rattle.std.specs.List.{flat_map}
+use Rattle.std.proofs.Common.{◌≡◌, ℕ, ◌≤◌, Bool, true, false, List, [], ◌++◌, take, drop, Option, Some, None, Result, Ok, Err, is_err, if◌then◌else◌, append-nil, append_assoc, refl, sym, subst, ◌∙◌, ap, arith}
+use Rattle.std.proofs.lemmas.List.{take-append-drop}
 use Rattle.soc_io.specs.declared.sink.SinkFault.{SinkFault}
 use Rattle.soc_io.specs.declared.sink.SinkFault.TheVariants.{Failed}
 use Rattle.soc_io.specs.Writing.{Appends, AppendsFront, Writes, Printed}

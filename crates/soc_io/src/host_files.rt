@@ -136,7 +136,8 @@ mod tests {
         files.read(alloc, "soc_io_host_files/small", &mut into)?;
         assert_eq!(rt; into.as_slice(), b"some bytes".as_slice());
         files.read(alloc, "soc_io_host_files/whole", &mut into)?;
-        assert!(rt; into.as_slice() == &whole[..MOST_FILE_BYTES]);
+        let _last = whole.pop();
+        assert!(rt; into.as_slice() == whole.as_slice());
         fs::remove_dir_all(&rt, folder)?;
         Ok(())
     }

@@ -24,9 +24,9 @@ pub all_there : (platform : Platform) (held : Held) (catalog : List Named)
     → All (λ name. IsSome (held_at held name)) (catalog_names catalog)
 all_there platform held catalog judged =
     All-map (λ name. IsSome (held_at held name)) (λ (named : Named). named.name) catalog
-        (All-weaker (λ (named : Named). JudgesFile platform held named.name named.judged)
-        (λ named. IsSome (held_at held named.name)) (λ named. there platform held named.name named.judged) catalog
-        judged)
+    (All-weaker (λ (named : Named). JudgesFile platform held named.name named.judged)
+    (λ named. IsSome (held_at held named.name)) (λ named. there platform held named.name named.judged) catalog
+    judged)
 
 next_in : (platform : Platform) (held : Held) (names : List (List ℕ)) (i : ℕ) (name other : List ℕ)
     (catalog : List Named)
@@ -34,10 +34,16 @@ next_in : (platform : Platform) (held : Held) (names : List (List ℕ)) (i : ℕ
     → All (λ named. JudgesFile platform held named.name named.judged) catalog → other ≡ name → IsNext held names other
 next_in platform held names i name other catalog inside is so_far judged same =
     let split : names ≡ take i names ++ other ∷ drop (i + 1) names =
-        sym (take-append-drop i names) ∙ ap (λ rest. take i names ++ rest) (drop_more names i name inside)
-        ∙ ap (λ n. take i names ++ n ∷ drop (i + 1) names) (sym is ∙ sym same) in
-    (take i names, (drop (i + 1) names, split, subst (All (λ n. IsSome (held_at held n))) so_far
-        (all_there platform held catalog judged)))
+    sym (take-append-drop i names) ∙ ap (λ rest. take i names ++ rest) (drop_more names i name inside)
+    ∙ ap (λ n. take i names ++ n ∷ drop (i + 1) names) (sym is ∙ sym same) in (
+      take i names,
+      (
+        drop (i + 1) names,
+        split,
+        subst (All (λ n. IsSome (held_at held n))) so_far
+            (all_there platform held catalog judged),
+      ),
+    )
 
 absent_too : (held : Held) (name other : List ℕ) → other ≡ name → held_at held name ≡ None → held_at held other ≡ None
 absent_too held name other same none = rw same none
@@ -62,12 +68,16 @@ lacks_from (Some held) before mid now platform names i name catalog (Script othe
     absurd misses
 lacks_from (Some held) before mid now platform names i name catalog (BadBundle other rule) first inside is misses =
     absurd misses
-lacks_from (Some held) before mid now platform names i name catalog (Absent other) first inside is misses =
-    (next_in platform held names i name other catalog inside is first.so_far first.judged misses.0, absent_too held
-        name other misses.0 misses.1)
-lacks_from (Some held) before mid now platform names i name catalog (Read other) first inside is misses =
-    (next_in platform held names i name other catalog inside is first.so_far first.judged misses.0, omega
-        (arith, misses.1, first.later))
+lacks_from (Some held) before mid now platform names i name catalog (Absent other) first inside is misses = (
+  next_in platform held names i name other catalog inside is first.so_far first.judged misses.0,
+  absent_too held
+      name other misses.0 misses.1,
+)
+lacks_from (Some held) before mid now platform names i name catalog (Read other) first inside is misses = (
+  next_in platform held names i name other catalog inside is first.so_far first.judged misses.0,
+  omega
+      (arith, misses.1, first.later),
+)
 lacks_from (Some held) before mid now platform names i name catalog NoMemory first inside is misses = tt
 lacks_from None before mid now platform names i name catalog (BadPlatform rule) first inside is misses = absurd misses
 lacks_from None before mid now platform names i name catalog (ScriptTooLong other) first inside is misses =

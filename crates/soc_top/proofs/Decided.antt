@@ -95,7 +95,7 @@ absent_allowed held request name (inr (inr (has, (commands, holds, (before, (aft
     let same = one_script held request.script others commands also holds in
     let names : bundle_names others ≡ before ++ name ∷ after = ap bundle_names same ∙ split in
     none_or_is_some _ none
-        (there_at held before name after (subst (All (λ other. IsSome (held_at held other))) names all))
+    (there_at held before name after (subst (All (λ other. IsSome (held_at held other))) names all))
 
 -- what the files decide isn't so where they allow the run
 pub undecided : (held : Held) (request : RunWords) (fault : TopFault) → AllowsRun held request
@@ -152,10 +152,10 @@ absent_only held request name (BadPlatform rule) reached none there =
     absurd (absent_platform held request name rule reached none there)
 absent_only held request name (ScriptTooLong script) reached none (same, has, long) =
     absurd (absent_script held request name reached none has
-        (long_no_script held request.script (rw (sym same) long)))
+    (long_no_script held request.script (rw (sym same) long)))
 absent_only held request name (Script script fault) reached none (same, has, faulty) =
     absurd (absent_script held request name reached none has
-        (faulty_no_script held request.script fault (rw (sym same) faulty)))
+    (faulty_no_script held request.script fault (rw (sym same) faulty)))
 absent_only held request name (BadBundle bundle rule) reached none there = absurd there
 absent_only held request name (Absent other) reached none there = refl
 absent_only held request name (Read other) reached none there = absurd there

@@ -5,9 +5,9 @@ use Rattle.platform_model.specs.declared.rules.PRule.{PRule}
 use Rattle.bundle_model.specs.declared.bundle.Bundle.{Bundle}
 use Rattle.bundle_model.specs.declared.rules.BRule.{BRule}
 use Rattle.platform_file.specs.Reading as platforms
-use Rattle.platform_file.proofs.Exclusive as platform
+use Rattle.platform_file.proofs.Laws as platform
 use Rattle.bundle_file.specs.Reading as bundles
-use Rattle.bundle_file.proofs.Exclusive as bundle
+use Rattle.bundle_file.proofs.Laws as bundle
 use Rattle.soc_io.specs.Reading.{Held}
 use Rattle.soc_top.specs.Files.{HoldsPlatform, BreaksPlatform, HoldsBundle, BreaksBundle}
 
@@ -21,19 +21,19 @@ pub platform_or_rule : (held : Held) (name : List ℕ) (p : Platform) (rule : PR
     → BreaksPlatform held name rule → ⊥
 platform_or_rule held name p rule (bytes, is, gives) (others, also, breaks) =
     let here : platforms.Gives others p =
-        subst (λ b. platforms.Gives b p) (same_bytes _ bytes others is also) gives in
+    subst (λ b. platforms.Gives b p) (same_bytes _ bytes others is also) gives in
     platform.gives_breaks_none others p rule here breaks
 
 pub one_platform : (held : Held) (name : List ℕ) (p q : Platform) → HoldsPlatform held name p
     → HoldsPlatform held name q → p ≡ q
 one_platform held name p q (bytes, is, gives) (others, also, given) =
     let here : platforms.Gives others p =
-        subst (λ b. platforms.Gives b p) (same_bytes _ bytes others is also) gives in
+    subst (λ b. platforms.Gives b p) (same_bytes _ bytes others is also) gives in
     platform.gives_one others p q here given
 
 pub bundle_or_rule : (p : Platform) (held : Held) (name : List ℕ) (b : Bundle) (rule : BRule)
     → HoldsBundle p held name b → BreaksBundle p held name rule → ⊥
 bundle_or_rule p held name b rule (bytes, is, gives) (others, also, breaks) =
     let here : bundles.Gives p others b =
-        subst (λ x. bundles.Gives p x b) (same_bytes _ bytes others is also) gives in
+    subst (λ x. bundles.Gives p x b) (same_bytes _ bytes others is also) gives in
     bundle.gives_breaks_none p others b rule here breaks

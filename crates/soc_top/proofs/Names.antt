@@ -84,13 +84,13 @@ added_with : (b : Bool) (known : List (List ℕ)) (name : List ℕ) → names kn
 added_with true known name here = here
 added_with false known name here =
     let last : names (name ∷ []) name ≡ (true || false) =
-        ap (λ b. b || false) ((bytes_eq-Decides name name).1 refl) in
+    ap (λ b. b || false) ((bytes_eq-Decides name name).1 refl) in
     list_any-append (λ known_name. bytes_eq known_name name) known (name ∷ []) ∙ ap (λ b. names known name || b) last
-        ∙ or_right (names known name)
+    ∙ or_right (names known name)
 
 pub named_among : (known all : List (List ℕ)) → All (λ name. names (fold with_name known all) name ≡ true) all
 named_among known [] = All-nil (λ name. names known name ≡ true)
 named_among known (name ∷ all) =
     All-cons (λ other. names (fold with_name (with_name known name) all) other ≡ true) name all
-        (kept_from (with_name known name) all name (added_with (names known name) known name refl))
-        (named_among (with_name known name) all)
+    (kept_from (with_name known name) all name (added_with (names known name) known name refl))
+    (named_among (with_name known name) all)

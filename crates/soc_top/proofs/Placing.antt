@@ -43,24 +43,24 @@ loads_below catalog number (name ∷ all) known =
     let P : List ℕ → Type 0 = λ other. names (catalog_names catalog) other ≡ true in
     let here = place_below catalog name (All-head P name all known) in
     both_true (nat_lt (catalog_place catalog name) (length catalog)) _ (le-leb _ _ here)
-        (loads_below catalog (number + 1) all (All-tail P name all known))
+    (loads_below catalog (number + 1) all (All-tail P name all known))
 
 pub known_loads : (catalog : List Named) (commands : List Command) → catalog_names catalog ≡ bundle_names commands
     → list_all (λ load. nat_lt load.bundle (length catalog)) (loads_of catalog (record { commands = commands } ∷ []))
-        ≡ true
+    ≡ true
 unfolding loads_of
 known_loads catalog commands same =
     let among = named_among [] (loaded_names commands) in
     let known : All (λ name. names (catalog_names catalog) name ≡ true) (loaded_names commands) = rw same among in
     ap (list_all (λ load. nat_lt load.bundle (length catalog)))
-        (append-nil (loads_from catalog 1 1 (loaded_names commands)))
-        ∙ loads_below catalog 1 (loaded_names commands) known
+    (append-nil (loads_from catalog 1 1 (loaded_names commands)))
+    ∙ loads_below catalog 1 (loaded_names commands) known
 
 pub few_bundles : (catalog : List Named) (commands : List Command) (most : ℕ)
     → catalog_names catalog ≡ bundle_names commands → length commands ≤ most → length catalog ≤ most
 few_bundles catalog commands most same few =
     let named : length catalog ≡ length (bundle_names commands) =
-        sym (length-map catalog (λ named. named.name)) ∙ ap length same in
+    sym (length-map catalog (λ named. named.name)) ∙ ap length same in
     let once = few_names commands in
     omega arith
 

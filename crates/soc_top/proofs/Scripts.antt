@@ -78,8 +78,8 @@ load_within name bytes (Err fault) command read is = cc
 -- the command of a line states a cycle within the limit
 line_within : (remark shape named : Bool) (name bytes : List ℕ) (command : Command)
     → command_in (cond remark (Ok None)
-        (cond shape (cond named (load_at name (number_read bytes LAST_STATED_CYCLE)) (Err S2)) (Err S1)))
-        ≡ Some command
+    (cond shape (cond named (load_at name (number_read bytes LAST_STATED_CYCLE)) (Err S2)) (Err S1)))
+    ≡ Some command
     → stated_cycle command ≤ LAST_CYCLE
 line_within true shape named name bytes command is = cc
 line_within false false named name bytes command is = cc
@@ -92,7 +92,7 @@ command_within : (line : List ℕ) (command : Command) → command_in (line_mean
 command_within line command is =
     let words = words_of line in
     line_within (is_remark words) (has_load_shape words) (is_name (word_at words 1)) (word_at words 1)
-        (word_at words 3) command is
+    (word_at words 3) command is
 
 found_all : (P : Command → Type 0) (found : Option Command) (commands : List Command)
     → ((command : Command) → found ≡ Some command → P command) → All P commands → All P (cons_option found commands)
@@ -110,5 +110,5 @@ pub cycles_meant : (bytes : List ℕ) (room : ℕ) (commands : List Command) →
 cycles_meant bytes room commands is =
     let (same, few) = meant bytes room commands is in
     subst (All (λ (command : Command). stated_cycle command ≤ LAST_CYCLE)) same
-        (lines_all (λ line. command_in (line_meaning line)) (λ (command : Command). stated_cycle command ≤ LAST_CYCLE)
-        command_within (lines_of bytes))
+    (lines_all (λ line. command_in (line_meaning line)) (λ (command : Command). stated_cycle command ≤ LAST_CYCLE)
+    command_within (lines_of bytes))

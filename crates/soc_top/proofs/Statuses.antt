@@ -21,7 +21,7 @@ abbrev pub IsThree : (TopFault → Type 0) → Type 0
 IsThree P =
     ((name : List ℕ) × P (ScriptTooLong name))
     ⊎ (((name : List ℕ) × ((found : ScriptFault) × P (Script name found))) ⊎ ((name : List ℕ)
-        × ((rule : BRule) × P (BadBundle name rule))))
+    × ((rule : BRule) × P (BadBundle name rule))))
 
 pub at_three : (P : TopFault → Type 0) (fault : TopFault) → P fault → fault_status fault ≡ 3 → IsThree P
 at_three P (BadPlatform rule) here is = absurd (omega (arith, is))

@@ -27,7 +27,7 @@ use Rattle.soc_top.specs.Faults.{fault_line, fault_status, ending_status}
 abbrev pub IsReached : Held → AloneWords → List ℕ → Type 0
 IsReached held request name =
     (name ≡ request.platform) ⊎ ((name ≡ request.bundle)
-        × ((platform : Platform) × HoldsPlatform held request.platform platform))
+    × ((platform : Platform) × HoldsPlatform held request.platform platform))
 
 -- Where files are told, the request is refused by the first event that refuses it, and this is why.
 abbrev pub ToldCause : Held → ℕ → ℕ → AloneWords → TopFault → Type 0
@@ -36,8 +36,8 @@ ToldCause held before now request (ScriptTooLong name) = ⊥
 ToldCause held before now request (Script name fault) = ⊥
 ToldCause held before now request (BadBundle name rule) =
     (name ≡ request.bundle)
-        × ((platform : Platform) × HoldsPlatform held request.platform platform
-        × BreaksBundle platform held name rule)
+    × ((platform : Platform) × HoldsPlatform held request.platform platform
+    × BreaksBundle platform held name rule)
 ToldCause held before now request (Absent name) = IsReached held request name × (held_at held name ≡ None)
 ToldCause held before now request (Read name) = IsReached held request name × Rose before now
 ToldCause held before now request NoMemory = Unit {0}

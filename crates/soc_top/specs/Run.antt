@@ -43,7 +43,7 @@ pub record RunAnswers (e : Exchange) (request : RunWords) (status : ℕ) : Type 
   -- 3: the script is too long or has this fault
   pub script : status ≡ 3
       → (name : List ℕ) × (RefusesRun e request (ScriptTooLong name) ⊎ ((fault : ScriptFault)
-          × RefusesRun e request (Script name fault)))
+      × RefusesRun e request (Script name fault)))
   -- 4: a file isn't there; 5: a file could not be read
   pub absent : status ≡ 4 → (name : List ℕ) × RefusesRun e request (Absent name)
   pub unread : status ≡ 5 → (name : List ℕ) × RefusesRun e request (Read name)

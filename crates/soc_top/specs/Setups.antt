@@ -23,13 +23,13 @@ use Rattle.soc_top.specs.Files.{HoldsPlatform, BreaksPlatform, HoldsBundle, Brea
 abbrev pub HoldsScript : Held → List ℕ → List Command → Type 0
 HoldsScript held name commands =
     (bytes : List ℕ) × (held_at held name ≡ Some bytes) × (length bytes ≤ MOST_FILE_BYTES)
-        × (script_meant bytes MOST_COMMANDS ≡ Ok commands)
+    × (script_meant bytes MOST_COMMANDS ≡ Ok commands)
 
 -- the file of this name has this as its first fault as a script
 abbrev pub FaultsScript : Held → List ℕ → ScriptFault → Type 0
 FaultsScript held name fault =
     (bytes : List ℕ) × (held_at held name ≡ Some bytes) × (length bytes ≤ MOST_FILE_BYTES)
-        × (script_meant bytes MOST_COMMANDS ≡ Err fault)
+    × (script_meant bytes MOST_COMMANDS ≡ Err fault)
 
 -- the file of this name is longer than files may be
 abbrev pub IsLong : Held → List ℕ → Type 0
@@ -73,8 +73,8 @@ ReachesBundle held request name =
     HasPlatform held request
     × ((commands : List Command) × HoldsScript held request.script commands
     × ((before : List (List ℕ))
-        × ((after : List (List ℕ)) × (bundle_names commands ≡ before ++ name ∷ after)
-        × All (λ earlier. IsSome (held_at held earlier)) before)))
+    × ((after : List (List ℕ)) × (bundle_names commands ≡ before ++ name ∷ after)
+    × All (λ earlier. IsSome (held_at held earlier)) before)))
 
 -- The files of a request are read in this order: the platform, the script, and each bundle in the order
 -- of its first naming; the platform and the script are judged when they were read. The file of this name
@@ -82,7 +82,7 @@ ReachesBundle held request name =
 abbrev pub IsReached : Held → RunWords → List ℕ → Type 0
 IsReached held request name =
     (name ≡ request.platform) ⊎
-        (((name ≡ request.script) × HasPlatform held request) ⊎ ReachesBundle held request name)
+    (((name ≡ request.script) × HasPlatform held request) ⊎ ReachesBundle held request name)
 
 -- Where files are told, the request is refused by the first event that refuses it, and this is why.
 abbrev pub ToldFault : Held → ℕ → ℕ → RunWords → TopFault → Type 0
@@ -135,4 +135,4 @@ abbrev pub AllowsRun : Held → RunWords → Type 0
 AllowsRun held request =
     HasPlatform held request
     × ((commands : List Command) × HoldsScript held request.script commands
-        × All (λ name. IsSome (held_at held name)) (bundle_names commands))
+    × All (λ name. IsSome (held_at held name)) (bundle_names commands))

@@ -92,7 +92,10 @@ pub fn read_catalog<F: Files>(
 {
     let mut catalog = Vec::new(alloc);
     for name in names {
-        add_bundle(alloc, platform, name, files, &mut catalog)?;
+        match add_bundle(alloc, platform, name, files, &mut catalog) {
+            Ok(()) => {}
+            Err(fault) => return Err(fault),
+        }
     }
     Ok(catalog)
 }

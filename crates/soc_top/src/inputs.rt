@@ -8,7 +8,7 @@ ghost use Rattle.soc_top.specs.inner.Inputs.{LoadsInputs};
 use crate::fault::TopFault;
 use crate::file::{copied, load_bundle, load_platform};
 use crate::request::AloneWords;
-use bundle_model::Bundle;
+use bundle_model::{Bundle, Named};
 use platform_model::Platform;
 use soc_base::Text;
 use soc_io::Files;
@@ -35,10 +35,10 @@ fn get_bundle<F: Files>(
     ensures gets { GetsBundle (F.holds files.old) (F.faults files.old) (F.faults files.new) platform.now name.now result }
     ensures well_formed { IfOk result (IsWellFormed platform.now) }
 {
-    let named = load_bundle(alloc, platform, copied(alloc, name)?, files)?;
-    match named.judged {
+    let Named { name, judged } = load_bundle(alloc, platform, copied(alloc, name)?, files)?;
+    match judged {
         Ok(bundle) => Ok(bundle),
-        Err(rule) => Err(TopFault::Bundle(named.name, rule)),
+        Err(rule) => Err(TopFault::Bundle(name, rule)),
     }
 }
 

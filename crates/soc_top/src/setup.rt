@@ -102,9 +102,18 @@ pub fn read_setup<F: Files>(
     ensures loads { LoadsSetup (F.holds files.old) (F.faults files.old) (F.faults files.new) request.now result }
     ensures sound { IfOk result IsSound }
 {
-    let platform = load_platform(alloc, &request.platform, files)?;
-    let script = load_script(alloc, &request.script, files)?;
-    let catalog = catalog_of(alloc, &platform, &script, files)?;
+    let platform = match load_platform(alloc, &request.platform, files) {
+        Ok(platform) => platform,
+        Err(fault) => return Err(fault),
+    };
+    let script = match load_script(alloc, &request.script, files) {
+        Ok(script) => script,
+        Err(fault) => return Err(fault),
+    };
+    let catalog = match catalog_of(alloc, &platform, &script, files) {
+        Ok(catalog) => catalog,
+        Err(fault) => return Err(fault),
+    };
     let setup = setup_of(alloc, platform, catalog, script, request.budget)?;
     Ok(setup)
 }

@@ -1,5 +1,5 @@
 -- What a slot does, by the tables read place by place.
-use Rattle.std.proofs.Common.{◌≡◌, ◌∙◌, ℕ, ◌+◌, ◌%◌, List, length, get_or, Option, Some, None, refl}
+use Rattle.std.proofs.Common.{◌≡◌, ◌∙◌, ap, ℕ, ◌+◌, ◌%◌, List, length, get_or, map, replicate, Option, Some, None, refl}
 use Rattle.std.specs.Option.{option_map, option_map_or, option_and_then}
 use Rattle.std.proofs.Math.ListN.{get_or-map}
 use Rattle.soc_base.specs.Port.{WordAndCredits, idle}
@@ -7,11 +7,15 @@ use Rattle.tdm_network.specs.declared.entries.Entry.{Entry}
 use Rattle.tdm_network.specs.declared.entries.Source.{Source}
 use Rattle.tdm_network.specs.declared.entries.Arrival.{Arrival}
 use Rattle.tdm_network.specs.declared.rows.Row.{Row}
-use Rattle.tdm_network.specs.Rows.{row_of, injecting}
-use Rattle.tdm_network.specs.Routing.{out_flit, arriving, routed}
+use Rattle.tdm_network.specs.Rows.{row_of, row_at, free_row, free_rows, injecting}
+use Rattle.tdm_network.proofs.SpotLemmas.{free_at}
+use Rattle.tdm_network.specs.Routing.{out_flit, arriving, routed, no_outputs}
 use Rattle.tdm_network.specs.Spots.{Role, spots_of, in_role, role_port, role_flit, role_delivery}
 use Rattle.tdm_network.specs.Spots.Spot.{InjectRow, OutRow, DropRow}
 use Rattle.tdm_network.specs.Spots.Role.{Sends, Takes, Receives}
+
+free_row_of : (rows : List Row) (slot : ℕ) → rows ≡ free_rows (length rows) → row_of rows slot ≡ free_row
+free_row_of rows slot free = ap (λ (read : List Row). row_at read (slot % length rows)) free ∙ free_at (length rows) (slot % length rows)
 
 port_by : (o : Option (Entry ℕ)) → option_map (λ (entry : Entry ℕ). entry.what) o ≡ option_and_then (λ (entry : Entry Role). role_port entry.what) (option_map (in_role Sends) o)
 port_by None = refl
@@ -38,3 +42,13 @@ delivery_by inputs (Some entry) = refl
 -- what is delivered is what the place of the slot's own row names
 pub delivery_is : (rows : List Row) (slot : ℕ) (inputs : List WordAndCredits) (injected : WordAndCredits) → (routed rows slot inputs injected).deliver ≡ option_and_then (λ (entry : Entry Role). role_delivery inputs entry.what) (spots_of rows (DropRow (slot % length rows)))
 delivery_is rows slot inputs injected = delivery_by inputs (row_of rows slot).deliver
+
+-- where every place is free, no port injects
+pub nobody_injects : (rows : List Row) (slot : ℕ) → rows ≡ free_rows (length rows) → injecting rows slot ≡ None
+nobody_injects rows slot free = ap (λ (row : Row). option_map (λ (entry : Entry ℕ). entry.what) row.inject) (free_row_of rows slot free)
+
+-- where every place is free, the outputs are idle and nothing is delivered
+pub nothing_routed : (rows : List Row) (slot : ℕ) (inputs : List WordAndCredits) (injected : WordAndCredits) → rows ≡ free_rows (length rows) → routed rows slot inputs injected ≡ no_outputs
+nothing_routed rows slot inputs injected free =
+    ap (λ (row : Row). record { links = map (out_flit inputs injected) row.outs; deliver = option_map (arriving inputs) (row_of rows slot).deliver }) (free_row_of rows (slot + 1) free)
+    ∙ ap (λ (row : Row). record { links = replicate 7 idle; deliver = option_map (arriving inputs) row.deliver }) (free_row_of rows slot free)

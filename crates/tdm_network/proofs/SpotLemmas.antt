@@ -107,7 +107,8 @@ spots-removed label rows (OutRow out slot) =
     ∙ kept_role Takes label (get_or (row_at rows slot).outs out None)
 spots-removed label rows (DropRow slot) = ap (λ (r : Row). option_map (in_role arrives) r.deliver) (row_at-map label rows slot) ∙ kept_role arrives label (row_at rows slot).deliver
 
-free_at : (n slot : ℕ) → row_at (free_rows n) slot ≡ free_row
+-- each row of new tables is free
+pub free_at : (n slot : ℕ) → row_at (free_rows n) slot ≡ free_row
 free_at n slot = grind (arith, common_steps)
 
 -- the free outputs

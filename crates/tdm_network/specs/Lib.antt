@@ -1,3 +1,4 @@
 pub mod Rows
 pub mod Spots
 pub mod Routing
+pub mod Fields

@@ -1,5 +1,5 @@
 -- What a tile puts on its links, and what its ports receive, by its slot tables.
-use Rattle.std.specs.Prelude.{ℕ, ◌+◌, List, map, get_or, Option, Some, None}
+use Rattle.std.specs.Prelude.{ℕ, ◌+◌, List, map, get_or, replicate, Option, Some, None}
 use Rattle.std.specs.Option.{option_map}
 use Rattle.soc_base.specs.Port.{WordAndCredits, idle}
 use Rattle.tdm_network.specs.declared.entries.Entry.{Entry}
@@ -32,3 +32,7 @@ routed rows slot inputs injected = record {
   links = map (out_flit inputs injected) (row_of rows (slot + 1)).outs;
   deliver = option_map (arriving inputs) (row_of rows slot).deliver;
 }
+
+-- idle links, and nothing delivered
+abbrev pub no_outputs : Outputs
+no_outputs = record { links = replicate 7 idle; deliver = None }

@@ -17,6 +17,7 @@ free_row = record { inject = None; outs = replicate 7 None; deliver = None }
 abbrev pub free_rows : ℕ → List Row
 free_rows table_slots = replicate table_slots free_row
 
+-- the row of a slot
 abbrev pub row_at : List Row → ℕ → Row
 row_at rows slot = get_or rows slot free_row
 
@@ -24,6 +25,7 @@ row_at rows slot = get_or rows slot free_row
 abbrev pub row_of : List Row → ℕ → Row
 row_of rows slot = row_at rows (slot % length rows)
 
+-- a place that holds an entry of a label
 abbrev pub held_by : {X : Type 0} → Label → X → Option (Entry X)
 held_by label what = Some (record { label = label; what = what })
 
@@ -40,6 +42,7 @@ with_entry label (Out out slot source) row = record row { outs = slice_set row.o
 with_entry label (Deliver slot input port) row =
     record row { deliver = held_by label (record { input = input; port = port }) }
 
+-- the tables after an entry was installed: its row has it, and every other row stays
 abbrev pub installed : Label → TableEntry → List Row → List Row
 installed label entry rows = slice_set rows (slot_of entry) (with_entry label entry (row_at rows (slot_of entry)))
 
@@ -48,6 +51,7 @@ abbrev pub kept : {X : Type 0} → Label → Option (Entry X) → Option (Entry 
 kept label None = None
 kept label (Some entry) = if same_label entry.label label then None else Some entry
 
+-- a row without a label's entries
 abbrev pub kept_row : Label → Row → Row
 kept_row label row = record {
   inject = kept label row.inject;

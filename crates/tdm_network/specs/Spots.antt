@@ -27,9 +27,11 @@ pub data Role : Type 0 where
   Takes : Source → Role
   Receives : ℕ → ℕ → Role
 
+-- what stands at each place
 abbrev pub Spots : Type 0
 Spots = Spot → Option (Entry Role)
 
+-- an entry of one table as one of all tables
 abbrev pub in_role : {X : Type 0} → (X → Role) → Entry X → Entry Role
 in_role role entry = record { label = entry.label; what = role entry.what }
 
@@ -46,11 +48,13 @@ spot_of (Inject slot port) = InjectRow slot
 spot_of (Out out slot source) = OutRow out slot
 spot_of (Deliver slot input port) = DropRow slot
 
+-- what an entry does at its place
 abbrev pub role_of : TableEntry → Role
 role_of (Inject slot port) = Sends port
 role_of (Out out slot source) = Takes source
 role_of (Deliver slot input port) = Receives input port
 
+-- whether two places are one
 abbrev pub same_spot : Spot → Spot → Bool
 same_spot (InjectRow slot) (InjectRow other) = slot == other
 same_spot (OutRow out slot) (OutRow at other) = out == at && slot == other
@@ -89,6 +93,7 @@ pub record IsLaidOut (table_slots : ℕ) (rows : List Row) : Type 0 where
   pub slots : length rows ≡ table_slots
   pub outs : All (λ row. length row.outs ≡ 7) rows
 
+-- a source that a router has: the flit that its tile injects, or one of its inputs
 abbrev pub IsSource : Source → Type 0
 IsSource Local = Unit {0}
 IsSource (Input input) = input < 7

@@ -32,6 +32,20 @@ const IDLE: Flit = Flit {
     credits: 0,
 };
 
+impl Outputs {
+    ghost use Rattle.tdm_network.specs.Routing.{no_outputs};
+
+    // Nothing on the links, and nothing delivered.
+    pub(crate) fn idle() -> Outputs
+        ensures { result ≡ no_outputs }
+    {
+        Outputs {
+            links: [IDLE; 7],
+            deliver: None,
+        }
+    }
+}
+
 // The flit of an input. An input that the router hasn't is idle.
 fn input_flit(inputs: &[Flit; 7], input: u8) -> Flit
     ensures { result ≡ get_or inputs.now input idle }

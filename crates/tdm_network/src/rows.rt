@@ -1,7 +1,7 @@
 //! The places of one slot.
 
-ghost use Rattle.std.specs.Prelude.{◌≡◌, length, map};
-ghost use Rattle.tdm_network.specs.Rows.{kept};
+ghost use Rattle.std.specs.Prelude.{◌≡◌, length, map, replicate, None, IsTrue};
+ghost use Rattle.tdm_network.specs.Rows.{kept, free_rows};
 
 use crate::entries::{Arrival, Entry, Source, TableEntry, kept};
 use soc_base::Label;
@@ -64,6 +64,13 @@ impl Row {
         }
     }
 
+    // Whether every place is free.
+    fn is_free(&self) -> bool
+        ensures { IsTrue result → self.now ≡ free_row }
+    {
+        self.inject.is_none() && self.deliver.is_none() && outs_free(&self.outs)
+    }
+
     // Frees the places of a label.
     pub(crate) fn clear(&mut self, label: Label)
         ensures { self.new ≡ kept_row label self.old }
@@ -81,4 +88,30 @@ fn clear_outs(outs: &mut [Option<Entry<Source>>; 7], label: Label)
     for out in 0..7usize {
         outs[out] = kept(label, outs[out]);
     }
+}
+
+// Whether every output is free.
+#[tactic(auto, using(crate::proofs::Written::same_more, crate::proofs::Written::same_all))]
+fn outs_free(outs: &[Option<Entry<Source>>; 7]) -> bool
+    ensures { IsTrue result → outs.now ≡ replicate 7 None }
+{
+    for out in outs {
+        if out.is_some() {
+            return false;
+        }
+    }
+    true
+}
+
+// Whether every place of the rows is free.
+#[tactic(auto, using(crate::proofs::Written::same_more, crate::proofs::Written::same_all))]
+pub(crate) fn all_free(rows: &[Row]) -> bool
+    ensures { IsTrue result → rows.now ≡ free_rows (length rows.now) }
+{
+    for row in rows {
+        if !row.is_free() {
+            return false;
+        }
+    }
+    true
 }

@@ -8,7 +8,7 @@ ghost use Rattle.tdm_network.specs.Spots.{Spot, spots_of, spot_of, with_spot, wi
 
 use crate::entries::TableEntry;
 use crate::routing::{Outputs, delivered, out_flits};
-use crate::rows::Row;
+use crate::rows::{Row, all_free};
 use soc_base::{Flit, Label, NoMemory};
 use std::alloc::Global;
 use std::marker::Model;
@@ -17,17 +17,20 @@ use std::marker::Model;
 #[derive(Drop)]
 pub struct SlotTables {
     rows: Vec<Row>,
+    // False only where every place is free, so that such a tile's slots cost little.
+    used: bool,
 }
 
 impl Model for SlotTables {
-    ghost use Rattle.std.specs.Prelude.{List, ◌<◌, ◌≤◌, vec_len};
+    ghost use Rattle.std.specs.Prelude.{List};
     ghost use Rattle.tdm_network.specs.declared.rows.Row.{Row};
+    ghost use Rattle.tdm_network.specs.Fields.{IsMarked};
 
     ghost Value = { List Row };
 
     ghost view = { λ t. t.rows.items };
 
-    ghost invariant = { λ t. (0 < vec_len t.rows) × (vec_len t.rows ≤ 64) };
+    ghost invariant = { λ t. IsMarked t.used t.rows.items };
 }
 
 impl SlotTables {
@@ -38,7 +41,7 @@ impl SlotTables {
         ensures { IfOk result (λ made. made ≡ free_rows table_slots) }
     {
         let rows = vec![in alloc; Row::free(); usize::from(table_slots)]?;
-        Ok(SlotTables { rows })
+        Ok(SlotTables { rows, used: false })
     }
 
     /// Installs an entry for a label at the entry's own place, which has to be free. Every other place
@@ -52,6 +55,7 @@ impl SlotTables {
         let slot = entry.slot();
         let row = &mut self.rows[usize::from(slot)];
         row.add(label, entry);
+        self.used = true;
     }
 
     /// Frees the places that a label holds, and no other. Takes no memory.
@@ -62,13 +66,18 @@ impl SlotTables {
         for row in self.rows.iter_mut() {
             row.clear(label);
         }
+        self.used = !all_free(self.rows.as_slice());
     }
 
     /// Answers the port that injects in a slot, counted from the first slot of the run, if the place in the
     /// inject table isn't free.
+    #[tactic(auto, using(crate::proofs::RoutingLemmas::nobody_injects))]
     pub fn inject_port(&self, slot: u64) -> Option<u8>
         ensures { result ≡ injecting self.now slot }
     {
+        if !self.used {
+            return None;
+        }
         let place = self.rows[self.row_number(slot)].inject?;
         Some(place.what)
     }
@@ -99,9 +108,13 @@ impl SlotTables {
     /// Answers what a slot does with the flits on the inputs and the one that the tile injects: the flits
     /// of the outputs in the slot after it, by that next slot's entries, and the delivery at the end of
     /// this slot, by its own entry. Takes no memory.
+    #[tactic(auto, using(crate::proofs::RoutingLemmas::nothing_routed))]
     pub fn route(&self, slot: u64, inputs: &[Flit; 7], injected: Flit) -> Outputs
         ensures { result ≡ routed self.now slot inputs.now injected }
     {
+        if !self.used {
+            return Outputs::idle();
+        }
         let now = self.row_number(slot);
         let next = self.row_after(slot, now);
         let row = &self.rows[next];

@@ -68,7 +68,14 @@ room_is world all loads grants number at slot granted t grant k i site is h stan
     let part = one.part in
     let sound = part_sound world all loads grants number i part site one.part_is in
     let own : IsGranted world grants slot loads i (grant.start * world.platform.slot_cycles) = record {
-      load = one.load; there = one.there; grant = grant; index = k; granted = at_k; label = one.label; stands = stands; start_is = refl;
+      load = one.load;
+      there = one.there;
+      grant = grant;
+      index = k;
+      granted = at_k;
+      label = one.label;
+      stands = stands;
+      start_is = refl;
     } in
     let apart : (place s : ℕ) → granted place ≡ Some s → i ≢ place = λ place s begins e. none-some s (sym absent ∙ ap granted e ∙ begins) in
     let disjoint : (place s : ℕ) (q : Part) → site_part world number loads place ≡ Some q → granted place ≡ Some s → AreDisjoint part q = λ place s q q_is begins.

@@ -75,10 +75,11 @@ own_cycle world all loads grants number slot k place grant load site there at sa
 
 -- each load whose grant ends in the slot is granted at its beginning
 pub ends_there : (world : World) (all loads : List LoadName) (grants : List Grant) (number slot : ℕ) → IsSite world all loads grants number → AreThere (ends_in slot) grants loads (site_granted world grants slot loads)
-ends_there world all loads grants number slot site k grant place load there ends at same =
-    (grant.start * world.platform.slot_cycles,
-    own_cycle world all loads grants number slot k place grant load site there at same
-    ∙ ap (λ b. first_cycle world.platform.slot_cycles (cond b (Some grant) None)) (ended_stood slot grant ends))
+ends_there world all loads grants number slot site k grant place load there ends at same = (
+  grant.start * world.platform.slot_cycles,
+  own_cycle world all loads grants number slot k place grant load site there at same
+      ∙ ap (λ b. first_cycle world.platform.slot_cycles (cond b (Some grant) None)) (ended_stood slot grant ends),
+)
 
 -- what is granted once the grants that end in the slot have ended
 abbrev pub granted_mid : World → List Grant → ℕ → List LoadName → ℕ → Option ℕ

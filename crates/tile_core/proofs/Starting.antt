@@ -59,6 +59,7 @@ fold_in world all_loads loads all number at slot R site goes have p [] granted v
     nothing : (load : Option LoadName) (old : Option ℕ) → cond (touches p [] load) (Some (slot * world.platform.slot_cycles)) old ≡ old
     nothing None old = refl
     nothing (Some load) old = refl
+
     unopened : (load : Option LoadName) (new old : PartState) → cond (touches p [] load) new old ≡ old
     unopened None new old = refl
     unopened (Some load) new old = refl

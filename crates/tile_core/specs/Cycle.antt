@@ -37,10 +37,12 @@ run_part costs cycle tile place None = tile
 run_part costs cycle tile place (Some part) =
     with_state tile place part (part_cycle costs (core_place part) cycle (held_state tile place part))
 
+-- the same for the part of the load at a place
 abbrev pub run_place : (ℕ → Option Part) → Costs → ℕ → TileState → Option ℕ → TileState
 run_place parts costs cycle tile None = tile
 run_place parts costs cycle tile (Some place) = run_part costs cycle tile place (parts place)
 
+-- the same for the part with a number, if one is held
 abbrev pub run_held : (ℕ → Option Part) → Costs → ℕ → TileState → Option ℕ → TileState
 run_held parts costs cycle tile None = tile
 run_held parts costs cycle tile (Some number) = run_place parts costs cycle tile (place_at tile number)

@@ -15,7 +15,6 @@ use Rattle.bundle_model.specs.World.{IsSoundWorld, AreOfLoads, same_label}
 use Rattle.comik.specs.Kernel.{IsInstalled, owner_at, has}
 use Rattle.tile_core.specs.Tile.{TileState, number_of, place_at, load_part, loads_on}
 
-
 -- the grant of a load that stands at the beginning of a slot, if there is one
 abbrev pub standing_grant : List Grant → ℕ → Label → Option Grant
 standing_grant grants slot label = find (λ grant. same_label grant.label label && stands_at slot grant) grants

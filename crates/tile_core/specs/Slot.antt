@@ -32,6 +32,7 @@ removed tile part = record tile {
   places = slice_set tile.places (number_of part) None;
 }
 
+-- the same, where there is a part
 abbrev pub removed_if : TileState → Option Part → TileState
 removed_if tile None = tile
 removed_if tile (Some part) = removed tile part
@@ -54,10 +55,12 @@ installed tile place part = record tile {
   places = slice_set tile.places (number_of part) (Some place);
 }
 
+-- the same, where there is a part
 abbrev pub installed_if : TileState → ℕ → Option Part → TileState
 installed_if tile place None = tile
 installed_if tile place (Some part) = installed tile place part
 
+-- the same for the part of the load at a place, where there is a place
 abbrev pub installed_at : World → TileState → Option ℕ → TileState
 installed_at world tile None = tile
 installed_at world tile (Some place) = installed_if tile place (load_part world tile place)

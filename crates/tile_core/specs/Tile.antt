@@ -103,6 +103,7 @@ state_if world tile place None = None
 state_if world tile place (Some part) =
     if is_installed tile place part then Some (state_with tile place part (words_at world tile part)) else None
 
+-- the installed part of the load at a place
 abbrev pub state_at : World → TileState → ℕ → Option PartState
 state_at world tile place = state_if world tile place (load_part world tile place)
 

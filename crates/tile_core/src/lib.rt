@@ -19,7 +19,6 @@ mod tile;
 #[cfg(test)]
 mod tests;
 
-
 pub use law::tile_holds;
 pub use station::Station;
 pub use tile::Tile;

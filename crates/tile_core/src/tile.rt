@@ -60,12 +60,7 @@ fn loads_on(
 }
 
 // The log of a load's part on a tile, before the load is granted.
-fn fresh_log(
-    alloc: Global,
-    world: &World,
-    load: &LoadName,
-    tile: u8,
-) -> Result<PartLog, NoMemory>
+fn fresh_log(alloc: Global, world: &World, load: &LoadName, tile: u8) -> Result<PartLog, NoMemory>
     ensures { IfOk result (λ log. log ≡ fresh_log world.now tile load.now) }
 {
     let room = match world.part_on(tile, load.bundle) {

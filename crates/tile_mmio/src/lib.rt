@@ -5,8 +5,6 @@
 //! real memory and a real log, by what `specs/State` and `specs/Part` see in them.
 #![tactic(auto)]
 
-/// One cycle of a part over its region.
-mod cycle;
 /// The bus of one part.
 mod part_bus;
 /// The cycles of a part over its region.
@@ -16,6 +14,5 @@ mod run;
 #[cfg(test)]
 mod tests;
 
-pub use cycle::cycle_part;
 pub use part_bus::PartBus;
 pub use run::PartOnTile;

@@ -121,9 +121,9 @@ impl<'a> PartOnTile<'a> {
         count
     }
 
-    #[tactic(auto, using(soc_base::proofs::Laws::steps_none, soc_base::proofs::Laws::steps_split))]
     /// Does `count` cycles of the part from `cycle` on. A part that has ended does nothing, and any other in
     /// each cycle what the instruction at pc needs. No byte outside the region changes. Takes no memory.
+    #[tactic(auto, using(soc_base::proofs::Laws::steps_none, soc_base::proofs::Laws::steps_split))]
     pub fn run(&mut self, costs: &Costs, place: Place, cycle: u64, count: u64)
         requires inside { IsInside self.old.memory.now self.old.region }
         requires bounded { cycle + count ≤ 2 ^ 64 }

@@ -50,8 +50,12 @@ grant_by-append setup history entry (Malformed rule) = refl
 grant_by-append setup history entry (Past horizon) = refl
 grant_by-append setup history entry (Taken resource owner free_from) = refl
 grant_by-append setup history entry (Granted label start) =
-    ap (λ (end : Option ℕ). let grant : Grant = record { label = label; bundle = loaded_place setup label;
-        start = start; end = end } in Some grant) (end_in-append history entry label)
+    ap (λ (end : Option ℕ). let grant : Grant = record {
+      label = label;
+      bundle = loaded_place setup label;
+      start = start;
+      end = end;
+    } in Some grant) (end_in-append history entry label)
 grant_by-append setup history entry NoLoad = refl
 grant_by-append setup history entry (Already end) = refl
 grant_by-append setup history entry (Stopped label end) = refl
@@ -64,13 +68,13 @@ map_cons f (Some x) xs = refl
 
 grants_before : (setup : Setup) (history : List Entry) (entry : Entry) (xs : List Entry)
     → filter_map (λ x. grant_by setup (history ++ entry ∷ []) x.reply) xs
-        ≡ map (ended_by entry.reply) (filter_map (λ x. grant_by setup history x.reply) xs)
+    ≡ map (ended_by entry.reply) (filter_map (λ x. grant_by setup history x.reply) xs)
 grants_before setup history entry [] = refl
 grants_before setup history entry (x ∷ xs) =
     ap₂ (λ o rest. cons_option o rest) (grant_by-append setup history entry x.reply)
-        (grants_before setup history entry xs)
+    (grants_before setup history entry xs)
     ∙ map_cons (ended_by entry.reply) (grant_by setup history x.reply)
-        (filter_map (λ x. grant_by setup history x.reply) xs)
+    (filter_map (λ x. grant_by setup history x.reply) xs)
 
 last_grant : (setup : Setup) (history : List Entry) (reply : Reply)
     → ((label : Label) (start : ℕ) → reply ≡ Granted label start → end_in history label ≡ None)
@@ -79,8 +83,12 @@ last_grant setup history (Malformed rule) fresh = refl
 last_grant setup history (Past horizon) fresh = refl
 last_grant setup history (Taken resource owner free_from) fresh = refl
 last_grant setup history (Granted label start) fresh =
-    ap (λ (end : Option ℕ). let grant : Grant = record { label = label; bundle = loaded_place setup label;
-        start = start; end = end } in grant ∷ []) (fresh label start refl)
+    ap (λ (end : Option ℕ). let grant : Grant = record {
+      label = label;
+      bundle = loaded_place setup label;
+      start = start;
+      end = end;
+    } in grant ∷ []) (fresh label start refl)
 last_grant setup history NoLoad fresh = refl
 last_grant setup history (Already end) fresh = refl
 last_grant setup history (Stopped label end) fresh = refl
@@ -136,7 +144,7 @@ next_of h xs i x below is =
 pub loads_more : (commands : List Command) (i : ℕ) (command : Command) → i < length commands
     → command ≡ get_or commands i command
     → length (loaded_names (take (i + 1) commands))
-        ≡ length (loaded_names (take i commands)) + length (option_to_list (loaded_name command))
+    ≡ length (loaded_names (take i commands)) + length (option_to_list (loaded_name command))
 loads_more commands i command below is =
     ap length (next_of loaded_name commands i command below is)
     ∙ length-append (loaded_names (take i commands)) (option_to_list (loaded_name command))
@@ -145,21 +153,21 @@ loads_more commands i command below is =
 pub greatest_more : (setup : Setup) (commands : List Command) (i : ℕ) (command : Command) → i < length commands
     → command ≡ get_or commands i command
     → fold (λ most slot. max most slot) 0 (filter_map (until_slot setup) (take (i + 1) commands))
-        ≡ fold (λ most slot. max most slot)
-        (fold (λ most slot. max most slot) 0 (filter_map (until_slot setup) (take i commands)))
-        (option_to_list (until_slot setup command))
+    ≡ fold (λ most slot. max most slot)
+    (fold (λ most slot. max most slot) 0 (filter_map (until_slot setup) (take i commands)))
+    (option_to_list (until_slot setup command))
 greatest_more setup commands i command below is =
     ap (fold (λ most slot. max most slot) 0) (next_of (until_slot setup) commands i command below is)
     ∙ fold-append (λ most slot. max most slot) 0 (filter_map (until_slot setup) (take i commands))
-        (option_to_list (until_slot setup command))
+    (option_to_list (until_slot setup command))
 
 -- one session more whose promise is looked at
 pub horizon_more : (setup : Setup) (done : ℕ → ℕ) (session least : ℕ) → 0 < session
     → least ≡ fold (λ least promise. min least promise) setup.budget
-        (map (λ s. promise_of setup s (done s)) (range_with_len 1 (session - 1)))
+    (map (λ s. promise_of setup s (done s)) (range_with_len 1 (session - 1)))
     → min least (promise_of setup session (done session))
-        ≡ fold (λ least promise. min least promise) setup.budget
-        (map (λ s. promise_of setup s (done s)) (range_with_len 1 (session + 1 - 1)))
+    ≡ fold (λ least promise. min least promise) setup.budget
+    (map (λ s. promise_of setup s (done s)) (range_with_len 1 (session + 1 - 1)))
 horizon_more setup done session least low is =
     let f = λ (s : ℕ). promise_of setup s (done s) in
     let least_of = λ (least promise : ℕ). min least promise in

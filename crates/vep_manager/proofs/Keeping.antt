@@ -54,7 +54,7 @@ kept_more {state} {before} entry after history kept is grows = record {
   legal = subst (IsLegal state.setup) (sym grows.appended) (legal_more state.setup state.history entry kept.legal is);
   grants_known = grows.grants ∙ ap (grants_after state.setup entry.reply) kept.grants_known
       ∙ sym (grants_more state LAST_CYCLE entry kept.sound.cycles is (kept_stands kept))
-          ∙ ap (grants_of state.setup) (sym grows.appended);
+      ∙ ap (grants_of state.setup) (sym grows.appended);
   horizon_known = grows.horizon;
   entries_fit = omega (arith, kept.entries_fit, grows.entries);
   grants_fit = omega (arith, kept.grants_fit, grows.loads);
@@ -119,5 +119,5 @@ pub kept_small : {state : ManagerState} {known : Known} → IsKept state known �
 kept_small {state} kept =
     let all : All HasSmallEnd (grants_at state) = λ k d below.
     small_of state.setup LAST_CYCLE (get_or (grants_at state) k d).end (lit≤ tt)
-        ((kept_stands kept).end_early k d below) in
+    ((kept_stands kept).end_early k d below) in
     subst (λ (l : List Grant). All HasSmallEnd l) (sym kept.grants_known) all

@@ -8,7 +8,7 @@ pub label_is : (one other : Label) → same_label one other ≡ true → one ≡
 label_is one other same =
     let parts = and_parts (one.session == other.session) (one.load == other.load) same in
     ap₂ (λ (s l : ℕ). let label : Label = record { session = s; load = l } in label)
-        (eqb-true one.session other.session parts.0) (eqb-true one.load other.load parts.1)
+    (eqb-true one.session other.session parts.0) (eqb-true one.load other.load parts.1)
 
 pub label_same : (one other : Label) → one ≡ other → same_label one other ≡ true
 label_same one other e = grind arith

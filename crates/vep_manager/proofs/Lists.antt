@@ -99,7 +99,7 @@ split_at : {X : Type 0} (ys : List X) (k : ℕ) (x : X) → k < length ys → ge
     → ys ≡ take k ys ++ x ∷ drop (suc k) ys
 split_at ys k x below is =
     sym (take-append-drop k ys)
-        ∙ ap (λ rest. take k ys ++ rest) (drop-cons ys k x below ∙ ap (λ y. y ∷ drop (suc k) ys) is)
+    ∙ ap (λ rest. take k ys ++ rest) (drop-cons ys k x below ∙ ap (λ y. y ∷ drop (suc k) ys) is)
 
 other_stays : {X : Type 0} (a b : List X) (x z : X) → (x ≡ z → ⊥) → Contains (a ++ x ∷ b) z → Contains (a ++ b) z
 other_stays a b x z apart inside =
@@ -122,7 +122,7 @@ fewer {X} (x ∷ xs) ys apart inside =
     let b : List X = drop (suc here.0) ys in
     let others : All (Contains (a ++ b)) xs = λ k d below.
     other_stays a b x (get_or xs k d) (pairs_head (λ a b. a ≢ b) x xs apart k d below)
-        (subst (λ (l : List X). Contains l (get_or xs k d)) is (All-tail (Contains ys) x xs inside k d below)) in
+    (subst (λ (l : List X). Contains l (get_or xs k d)) is (All-tail (Contains ys) x xs inside k d below)) in
     let rest = fewer xs (a ++ b) (pairs_tail (λ a b. a ≢ b) x xs apart) others in
     omega (arith, rest, ap length is, length-append a (x ∷ b), length-append a b)
 

@@ -44,7 +44,7 @@ pub judged_found : (setup : Setup) (label : Label) (load : LoadName) (named : Na
     → judged_of setup label ≡ Some judged
 judged_found setup label load named judged here file is =
     ap (λ (o : Option LoadName). option_and_then
-        (λ (l : LoadName). option_map (λ (n : Named). n.judged) (slice_get setup.world.catalog l.bundle)) o) here
+    (λ (l : LoadName). option_map (λ (n : Named). n.judged) (slice_get setup.world.catalog l.bundle)) o) here
     ∙ ap (λ (o : Option Named). option_map (λ (n : Named). n.judged) o) file ∙ ap Some is
 
 -- what the bundle of that file holds
@@ -53,7 +53,7 @@ pub held_found : (world : World) (place : ℕ) (named : Named) (bundle : Bundle)
     → option_map_or (resources_of world.platform) (bundle_at world place) [] ≡ resources_of world.platform bundle
 held_found world place named bundle file is =
     ap (λ (o : Option Named). option_map_or (resources_of world.platform)
-        (option_and_then (λ (n : Named). kept_bundle n.judged) o) []) file
+    (option_and_then (λ (n : Named). kept_bundle n.judged) o) []) file
     ∙ ap (λ (j : Result Bundle BRule). option_map_or (resources_of world.platform) (kept_bundle j) []) is
 
 some_and : {X Y : Type 0} (f : X → Option Y) (o : Option X) → ((x : X) → o ≡ Some x → is_some (f x) ≡ true)
@@ -80,15 +80,15 @@ load_judged setup session n command at loads =
     let label : Label = next_label setup session n in
     let known = next_is_known setup session n command at loads in
     let there = is_found (λ (l : LoadName). same_label l.label label) setup.loads known.0 known.1
-        (label_same known.0.label label known.2) in
+    (label_same known.0.label label known.2) in
     some_and _ (find (λ l. same_label l.label label) setup.loads)
     (λ load here.
     let inside = (found (λ (l : LoadName). same_label l.label label) setup.loads load here).1 in
     let low : load.bundle < length setup.world.catalog =
-        All-contains (λ (l : LoadName). l.bundle < length setup.world.catalog) setup.loads load
-        (loads_known setup) inside in
+    All-contains (λ (l : LoadName). l.bundle < length setup.world.catalog) setup.loads load
+    (loads_known setup) inside in
     some_map (λ (n : Named). n.judged) (slice_get setup.world.catalog load.bundle)
-        ∙ some_at setup.world.catalog load.bundle low)
+    ∙ some_at setup.world.catalog load.bundle low)
     there
 
 -- each command is answered
@@ -97,7 +97,7 @@ is_replied : (state : ManagerState) (session : ℕ) (command : Command)
     → is_some (reply_at state session command) ≡ true
 is_replied state session (Load name cycle) at =
     some_map (load_reply state.setup state.history (label_at state session) (granted_slot state.setup cycle))
-        (judged_of state.setup (label_at state session))
+    (judged_of state.setup (label_at state session))
     ∙ load_judged state.setup session (done_at state session) (Load name cycle) at (λ none. cc)
 is_replied state session (Stop load cycle) at = refl
 is_replied state session (Until cycle) at = refl
@@ -110,22 +110,25 @@ pub next_is : (state : ManagerState) (session : ℕ) (command : Command) (reply 
 unfolding next_entry
 next_is state session command reply at is =
     let entry = λ (r : Reply). let e : Entry =
-        record { session = session; index = done_at state session + 1; reply = r } in e in
+    record { session = session; index = done_at state session + 1; reply = r } in e in
     ap (λ (o : Option Command). option_map entry (option_and_then (reply_at state session) o))
-        (numbered_next (commands_at state session) (done_at state session) ∙ at)
+    (numbered_next (commands_at state session) (done_at state session) ∙ at)
     ∙ ap (option_map entry) is
 
 some_next : (state : ManagerState) (session : ℕ)
     → is_some (next_at state session)
-        ≡ is_some (option_and_then (reply_at state session)
-        (slice_get (commands_at state session) (done_at state session)))
+    ≡ is_some (option_and_then (reply_at state session)
+    (slice_get (commands_at state session) (done_at state session)))
 unfolding next_entry
 some_next state session =
-    some_map (λ (r : Reply). let e : Entry = record { session = session; index = done_at state session + 1;
-        reply = r } in e) (option_and_then (reply_at state session)
-        (numbered (commands_at state session) (done_at state session + 1)))
+    some_map (λ (r : Reply). let e : Entry = record {
+      session = session;
+      index = done_at state session + 1;
+      reply = r;
+    } in e) (option_and_then (reply_at state session)
+    (numbered (commands_at state session) (done_at state session + 1)))
     ∙ ap (λ (o : Option Command). is_some (option_and_then (reply_at state session) o))
-        (numbered_next (commands_at state session) (done_at state session))
+    (numbered_next (commands_at state session) (done_at state session))
 
 -- a session has no next entry just where its script is used up
 pub next_none : (state : ManagerState) (session : ℕ)
@@ -137,14 +140,16 @@ next_none state session =
       | inl (command, below, at, is) ↦
           let next : is_some (next_at state session) ≡ true =
           some_next state session
-              ∙ ap (λ (o : Option Command). is_some (option_and_then (reply_at state session) o)) at
-              ∙ is_replied state session command at in
-          (λ none. absurd (false≢true (sym none ∙ next)), λ used. let past = leb-true (length commands) count used in
-              absurd (omega arith))
+          ∙ ap (λ (o : Option Command). is_some (option_and_then (reply_at state session) o)) at
+          ∙ is_replied state session command at in (
+            λ none. absurd (false≢true (sym none ∙ next)),
+            λ used. let past = leb-true (length commands) count used in
+                absurd (omega arith),
+          )
       | inr (past, at) ↦
           let next : is_some (next_at state session) ≡ false =
           some_next state session
-              ∙ ap (λ (o : Option Command). is_some (option_and_then (reply_at state session) o)) at in
+          ∙ ap (λ (o : Option Command). is_some (option_and_then (reply_at state session) o)) at in
           (λ none. le-leb (length commands) count past, λ used. next)
     ]
 

@@ -48,12 +48,16 @@ pub next_command : (state : ManagerState) (entry : Entry) → IsNextEntry state 
 unfolding next_entry
 next_command state entry e =
     let made = mapped _ (option_and_then (reply_at state entry.session)
-        (numbered (commands_at state entry.session) (done_at state entry.session + 1))) entry e in
+    (numbered (commands_at state entry.session) (done_at state entry.session + 1))) entry e in
     let it = and_then (reply_at state entry.session)
-        (numbered (commands_at state entry.session) (done_at state entry.session + 1)) made.0 made.1 in
-    let same : made.0 ≡ entry.reply = ap (λ (x : Entry). x.reply) made.2 in
-    (it.0, record { at = sym (numbered_next (commands_at state entry.session) (done_at state entry.session)) ∙ it.1;
-        replied = it.2 ∙ ap Some same })
+    (numbered (commands_at state entry.session) (done_at state entry.session + 1)) made.0 made.1 in
+    let same : made.0 ≡ entry.reply = ap (λ (x : Entry). x.reply) made.2 in (
+      it.0,
+      record {
+        at = sym (numbered_next (commands_at state entry.session) (done_at state entry.session)) ∙ it.1;
+        replied = it.2 ∙ ap Some same;
+      },
+    )
 
 -- a grant that a reply opens
 pub record Opens (state : ManagerState) (limit session : ℕ) (grant : Grant) : Type 0 where
@@ -101,15 +105,15 @@ stated_early setup limit session n command within at =
     let it = script_of setup session n command at in
     let script : Script = it.0 in
     let all : All (λ command. stated_cycle command ≤ limit) script.commands =
-        All-contains (λ (s : Script). All (λ command. stated_cycle command ≤ limit) s.commands) setup.scripts script
-        within (contains_at setup.scripts (session - 1) script it.1.there) in
+    All-contains (λ (s : Script). All (λ command. stated_cycle command ≤ limit) s.commands) setup.scripts script
+    within (contains_at setup.scripts (session - 1) script it.1.there) in
     let there : slice_get script.commands n ≡ Some command =
-        ap (λ (l : List Command). slice_get l n) (sym it.1.commands) ∙ at in
+    ap (λ (l : List Command). slice_get l n) (sym it.1.commands) ∙ at in
     let low : stated_cycle command ≤ limit =
-        All-contains (λ (c : Command). stated_cycle c ≤ limit) script.commands command all
-        (contains_at script.commands n command there) in
+    All-contains (λ (c : Command). stated_cycle c ≤ limit) script.commands command all
+    (contains_at script.commands n command there) in
     let bound = (div_ceil_times (stated_cycle command) setup.world.platform.slot_cycles
-        setup.world.platform.slot_cycles_in_range.0).1 in
+    setup.world.platform.slot_cycles_in_range.0).1 in
     omega (arith, low, bound)
 
 ends_before : (start : ℕ) (o : Option ℕ) → lasts_to start o ≡ false → IsSomeAnd o (λ end. end < start)
@@ -137,12 +141,12 @@ none_met : (world : World) (grants : List Grant) (start : ℕ) (resources : List
 none_met world grants start [] free one inside lasts = refl
 none_met world grants start (resource ∷ resources) free one inside lasts =
     let parts = found_none (find (conflicts world start resource) grants) (taken_by resource)
-        (first_conflict world grants start resources) free in
+    (first_conflict world grants start resources) free in
     let here : conflicts world start resource one ≡ false =
-        All-contains (λ g. conflicts world start resource g ≡ false) grants one
-        (not_found (conflicts world start resource) grants parts.0) inside in
+    All-contains (λ g. conflicts world start resource g ≡ false) grants one
+    (not_found (conflicts world start resource) grants parts.0) inside in
     or_none _ _ (and_left (lasts_to start one.end) _ here lasts)
-        (none_met world grants start resources parts.1 one inside lasts)
+    (none_met world grants start resources parts.1 one inside lasts)
 
 bool_cases : (b : Bool) → (b ≡ true) ⊎ (b ≡ false)
 bool_cases true = inl refl
@@ -173,7 +177,7 @@ taken_quiet : (setup : Setup) (world : World) (grants : List Grant) (start : ℕ
 taken_quiet setup world grants start [] reply e = cc
 taken_quiet setup world grants start (resource ∷ resources) reply e =
     taken_step setup (find (conflicts world start resource) grants) resource
-        (first_conflict world grants start resources) reply (taken_quiet setup world grants start resources reply) e
+    (first_conflict world grants start resources) reply (taken_quiet setup world grants start resources reply) e
 
 -- a load whose bundle breaks no rule, and what it asks for
 record IsAsked (state : ManagerState) (limit session : ℕ) (bundle : Bundle) (start : ℕ) : Type 0 where
@@ -185,29 +189,37 @@ opens_of : (state : ManagerState) (limit session : ℕ) (bundle : Bundle) (start
     → IsAsked state limit session bundle start
     → first_conflict state.setup.world (grants_at state) start (resources_of state.setup.world.platform bundle) ≡ None
     → Opens state limit session
-        (record { label = label_at state session; bundle = loaded_place state.setup (label_at state session);
-        start = start; end = None })
+    (record {
+      label = label_at state session;
+      bundle = loaded_place state.setup (label_at state session);
+      start = start;
+      end = None;
+    })
 opens_of state limit session bundle start asked free =
     let label : Label = label_at state session in
     let it = and_then (λ (load : LoadName). option_map (λ (named : Named). named.judged)
-        (slice_get state.setup.world.catalog load.bundle))
-        (find (λ load. same_label load.label label) state.setup.loads) (Ok bundle) asked.judged in
+    (slice_get state.setup.world.catalog load.bundle))
+    (find (λ load. same_label load.label label) state.setup.loads) (Ok bundle) asked.judged in
     let load : LoadName = it.0 in
     let there = found (λ (l : LoadName). same_label l.label label) state.setup.loads load it.1 in
     let named = mapped (λ (n : Named). n.judged) (slice_get state.setup.world.catalog load.bundle) (Ok bundle) it.2 in
     let place : loaded_place state.setup label ≡ load.bundle =
-        ap (λ (o : Option LoadName). option_map_or (λ (l : LoadName). l.bundle) o 0) it.1 in
+    ap (λ (o : Option LoadName). option_map_or (λ (l : LoadName). l.bundle) o 0) it.1 in
     let kept : bundle_at state.setup.world (loaded_place state.setup label) ≡ Some bundle =
     ap (bundle_at state.setup.world) place
-        ∙ ap (λ (o : Option Named). option_and_then (λ (n : Named). kept_bundle n.judged) o) named.1
-        ∙ ap kept_bundle named.2 in
-    let grant : Grant = record { label = label; bundle = loaded_place state.setup label; start = start;
-        end = None } in
+    ∙ ap (λ (o : Option Named). option_and_then (λ (n : Named). kept_bundle n.judged) o) named.1
+    ∙ ap kept_bundle named.2 in
+    let grant : Grant = record {
+      label = label;
+      bundle = loaded_place state.setup label;
+      start = start;
+      end = None;
+    } in
     let held : grant_resources state.setup.world grant ≡ resources_of state.setup.world.platform bundle =
-        ap (λ (o : Option Bundle). option_map_or (resources_of state.setup.world.platform) o []) kept in
+    ap (λ (o : Option Bundle). option_map_or (resources_of state.setup.world.platform) o []) kept in
     let same : load ≡ (let l : LoadName = record { label = label; bundle = loaded_place state.setup label } in l) =
-        ap₂ (λ (l : Label) (b : ℕ). let name : LoadName = record { label = l; bundle = b } in name)
-        (label_is load.label label there.0) (sym place) in
+    ap₂ (λ (l : Label) (b : ℕ). let name : LoadName = record { label = l; bundle = b } in name)
+    (label_is load.label label there.0) (sym place) in
     record {
       endless = refl;
       label = refl;
@@ -230,8 +242,8 @@ load_tells state limit session bundle start horizon false None asked is =
     record { opens = opens_of state limit session bundle start asked is; closes = λ label end e. cc }
 load_tells state limit session bundle start horizon false (Some reply) asked is =
     quiet_tells state limit session reply
-        (taken_quiet state.setup state.setup.world (grants_at state) start
-        (resources_of state.setup.world.platform bundle) reply is)
+    (taken_quiet state.setup state.setup.world (grants_at state) start
+    (resources_of state.setup.world.platform bundle) reply is)
 
 judged_tells : (state : ManagerState) (limit session : ℕ) (judged : Result Bundle BRule) (start : ℕ)
     → judged_of state.setup (label_at state session) ≡ Some judged → OneMoreLoad state session
@@ -241,8 +253,8 @@ judged_tells state limit session (Err rule) start is more early =
     quiet_tells state limit session (Malformed rule) (record { opens = refl; closes = λ label. refl })
 judged_tells state limit session (Ok bundle) start is more early =
     load_tells state limit session bundle start (horizon_at state) (nat_lt start (horizon_at state))
-        (first_conflict state.setup.world (grants_at state) start (resources_of state.setup.world.platform bundle))
-        (record { judged = is; more = more; early = early }) refl
+    (first_conflict state.setup.world (grants_at state) start (resources_of state.setup.world.platform bundle))
+    (record { judged = is; more = more; early = early }) refl
 
 max_is : (a b : ℕ) → (max a b ≡ a) ⊎ (max a b ≡ b)
 max_is a b = elim (cases_lt a b) [ inl low ↦ inr (omega arith) | inr high ↦ inl (omega arith) ]
@@ -262,8 +274,8 @@ BeginEarly state limit = All (λ grant. IsEarly state.setup limit grant.start) (
 stopped_tells : (state : ManagerState) (limit session horizon slot : ℕ) (grant : Grant) (past : Bool) (end : Option ℕ)
     → Contains (grants_at state) grant → IsEarly state.setup limit slot → BeginEarly state limit
     → Tells state limit session
-        (option_map_or (λ end. Already end) end
-        (cond past (Past horizon) (Stopped grant.label (max slot grant.start))))
+    (option_map_or (λ end. Already end) end
+    (cond past (Past horizon) (Stopped grant.label (max slot grant.start))))
 stopped_tells state limit session horizon slot grant past (Some end) inside early begun =
     quiet_tells state limit session (Already end) (record { opens = refl; closes = λ label. refl })
 stopped_tells state limit session horizon slot grant true None inside early begun =
@@ -290,7 +302,7 @@ stop_tells state limit session slot label None is early begun =
     quiet_tells state limit session NoLoad (record { opens = refl; closes = λ label. refl })
 stop_tells state limit session slot label (Some grant) is early begun =
     stopped_tells state limit session (horizon_at state) slot grant (nat_lt slot (horizon_at state)) grant.end
-        (found (λ (g : Grant). same_label g.label label) (grants_at state) grant is).1 early begun
+    (found (λ (g : Grant). same_label g.label label) (grants_at state) grant is).1 early begun
 
 -- what the reply to a session's next command tells
 pub reply_tells : (state : ManagerState) (limit session : ℕ) (command : Command) (reply : Reply)
@@ -299,21 +311,21 @@ pub reply_tells : (state : ManagerState) (limit session : ℕ) (command : Comman
 reply_tells state limit session (Load name cycle) reply within begun next =
     let label : Label = label_at state session in
     let it = mapped (load_reply state.setup state.history label (granted_slot state.setup cycle))
-        (judged_of state.setup label) reply next.replied in
+    (judged_of state.setup label) reply next.replied in
     let more = loads_next (commands_at state session) (done_at state session) (Load name cycle) next.at
-        (λ none. cc) in
+    (λ none. cc) in
     subst (λ (r : Reply). Tells state limit session r) it.2
-        (judged_tells state limit session it.0 (granted_slot state.setup cycle) it.1 more
-        (stated_early state.setup limit session (done_at state session) (Load name cycle) within next.at))
+    (judged_tells state limit session it.0 (granted_slot state.setup cycle) it.1 more
+    (stated_early state.setup limit session (done_at state session) (Load name cycle) within next.at))
 reply_tells state limit session (Stop load cycle) reply within begun next =
     let label : Label = record { session = session; load = load } in
     let slot : ℕ = granted_slot state.setup cycle in
     let o : Option Grant = find (λ grant. same_label grant.label label) (grants_at state) in
     let same : stop_reply (horizon_at state) slot o ≡ reply = same_Some _ reply next.replied in
     subst (λ (r : Reply). Tells state limit session r) same
-        (stop_tells state limit session slot label o refl
-        (stated_early state.setup limit session (done_at state session) (Stop load cycle) within next.at) begun)
+    (stop_tells state limit session slot label o refl
+    (stated_early state.setup limit session (done_at state session) (Stop load cycle) within next.at) begun)
 reply_tells state limit session (Until cycle) reply within begun next =
     let same = same_Some _ reply next.replied in
     subst (λ (r : Reply). Tells state limit session r) same
-        (quiet_tells state limit session _ (record { opens = refl; closes = λ label. refl }))
+    (quiet_tells state limit session _ (record { opens = refl; closes = λ label. refl }))

@@ -42,15 +42,15 @@ pub few_grants : (state : ManagerState) (limit : ℕ) → Standing state limit
 few_grants state limit stands =
     let name = λ (g : Grant). let load : LoadName = record { label = g.label; bundle = g.bundle } in load in
     let apart = pairs_map (λ (one other : Grant). one.label ≢ other.label) (λ (one other : LoadName). one ≢ other)
-        name (λ one other labels same. labels (ap (λ (l : LoadName). l.label) same)) (grants_at state)
-        stands.apart.labelled in
+    name (λ one other labels same. labels (ap (λ (l : LoadName). l.label) same)) (grants_at state)
+    stands.apart.labelled in
     let few = fewer (map name (grants_at state)) state.setup.loads apart
-        (All-map (Contains state.setup.loads) name (grants_at state) stands.of_loads) in
+    (All-map (Contains state.setup.loads) name (grants_at state) stands.of_loads) in
     omega (arith, few, length-map (grants_at state) name)
 
 counts_fit : (history : List Entry) (scripts : List Script) (from : ℕ)
     → ((place : ℕ) (script : Script) → slice_get scripts place ≡ Some script
-        → count_of history (from + place) ≤ length script.commands)
+    → count_of history (from + place) ≤ length script.commands)
     → counts history from (length scripts) ≤ sum_by (λ script. length script.commands) scripts
 counts_fit history [] from fit = omega arith
 counts_fit history (script ∷ scripts) from fit =
@@ -59,8 +59,14 @@ counts_fit history (script ∷ scripts) from fit =
     let rest = counts_fit history scripts (from + 1) (λ place other at.
     let shift : from + suc place ≡ from + 1 + place = omega arith in
     subst (λ (s : ℕ). count_of history s ≤ length other.commands) shift (fit (suc place) other at)) in
-    omega (arith, here, ap (count_of history) same, rest, sum_by-cons (λ (s : Script). length s.commands) script
-        scripts)
+    omega (
+      arith,
+      here,
+      ap (count_of history) same,
+      rest,
+      sum_by-cons (λ (s : Script). length s.commands) script
+          scripts,
+    )
 
 -- the entries are no more than the commands
 pub few_entries : (state : ManagerState) (limit : ℕ) → Standing state limit
@@ -70,8 +76,8 @@ few_entries state limit stands =
     let shift : 1 + place ≡ place + 1 = omega arith in
     let commands : commands_of state.setup (1 + place) ≡ script.commands =
     ap (commands_of state.setup) shift
-        ∙ ap (λ (o : Option Script). option_map_or (λ (s : Script). s.commands) o [])
-        (numbered_next state.setup.scripts place ∙ at) in
+    ∙ ap (λ (o : Option Script). option_map_or (λ (s : Script). s.commands) o [])
+    (numbered_next state.setup.scripts place ∙ at) in
     omega (arith, stands.within (1 + place), ap length commands)) in
     omega (arith, fit, stands.total)
 
@@ -111,15 +117,15 @@ grants_none setup = refl
 least_same : (setup : Setup) (done : ℕ → ℕ) (sessions : List ℕ)
     → All (λ session. promise_of setup session (done session) ≡ setup.budget) sessions
     → fold (λ least promise. min least promise) setup.budget
-        (map (λ session. promise_of setup session (done session)) sessions) ≡ setup.budget
+    (map (λ session. promise_of setup session (done session)) sessions) ≡ setup.budget
 least_same setup done [] same = refl
 least_same setup done (session ∷ sessions) same =
     let here = All-head (λ session. promise_of setup session (done session) ≡ setup.budget) session sessions same in
     let least : min setup.budget (promise_of setup session (done session)) ≡ setup.budget = omega (arith, here) in
     ap (λ n. fold (λ least promise. min least promise) n
-        (map (λ session. promise_of setup session (done session)) sessions)) least
+    (map (λ session. promise_of setup session (done session)) sessions)) least
     ∙ least_same setup done sessions
-        (All-tail (λ session. promise_of setup session (done session) ≡ setup.budget) session sessions same)
+    (All-tail (λ session. promise_of setup session (done session) ≡ setup.budget) session sessions same)
 
 -- the horizon of a complete history is the budget
 pub horizon_complete : (setup : Setup) (history : List Entry) → IsComplete setup history
@@ -127,11 +133,11 @@ pub horizon_complete : (setup : Setup) (history : List Entry) → IsComplete set
 unfolding horizon_of
 horizon_complete setup history complete =
     let most = λ (session n : ℕ). fold (λ most slot. max most slot) 0
-        (filter_map (until_slot setup) (take n (commands_of setup session))) in
+    (filter_map (until_slot setup) (take n (commands_of setup session))) in
     let all : All (λ session. promise_of setup session (count_of history session) ≡ setup.budget)
-        (sessions_of setup) = λ k d below.
+    (sessions_of setup) = λ k d below.
     let session : ℕ = get_or (sessions_of setup) k d in
     let used : nat_le (length (commands_of setup session)) (count_of history session) ≡ true =
-        le-leb (length (commands_of setup session)) (count_of history session) (omega (arith, complete k d below)) in
+    le-leb (length (commands_of setup session)) (count_of history session) (omega (arith, complete k d below)) in
     ap (λ b. cond b setup.budget (min setup.budget (most session (count_of history session)))) used in
     least_same setup (count_of history) (sessions_of setup) all

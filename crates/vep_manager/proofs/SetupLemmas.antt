@@ -33,7 +33,7 @@ loads_from-session : (catalog : List Named) (session number : ℕ) (names : List
 loads_from-session catalog session number [] = All-nil (λ load. load.label.session ≡ session)
 loads_from-session catalog session number (name ∷ names) =
     All-cons (λ load. load.label.session ≡ session) _ (loads_from catalog session (number + 1) names) refl
-        (loads_from-session catalog session (number + 1) names)
+    (loads_from-session catalog session (number + 1) names)
 
 loads_from-numbers : (catalog : List Named) (session number : ℕ) (names : List (List ℕ))
     → All (λ load. number ≤ load.label.load) (loads_from catalog session number names)
@@ -41,8 +41,8 @@ loads_from-numbers catalog session number [] = All-nil (λ load. number ≤ load
 loads_from-numbers catalog session number (name ∷ names) =
     All-cons (λ load. number ≤ load.label.load) _ (loads_from catalog session (number + 1) names) (omega arith)
     (All-weaker (λ (load : LoadName). number + 1 ≤ load.label.load) (λ load. number ≤ load.label.load)
-        (λ load above. omega arith) (loads_from catalog session (number + 1) names)
-        (loads_from-numbers catalog session (number + 1) names))
+    (λ load above. omega arith) (loads_from catalog session (number + 1) names)
+    (loads_from-numbers catalog session (number + 1) names))
 
 loads_from-apart : (catalog : List Named) (session number : ℕ) (names : List (List ℕ))
     → AllPairs (λ one other. one.label ≢ other.label) (loads_from catalog session number names)
@@ -50,11 +50,11 @@ loads_from-apart catalog session number [] = pairs_none (λ (one other : LoadNam
 loads_from-apart catalog session number (name ∷ names) =
     let R : LoadName → LoadName → Type 0 = λ one other. one.label ≢ other.label in
     let first : LoadName =
-        record { label = record { session = session; load = number }; bundle = catalog_place catalog name } in
+    record { label = record { session = session; load = number }; bundle = catalog_place catalog name } in
     pairs_cons R first (loads_from catalog session (number + 1) names)
     (All-weaker (λ (load : LoadName). number + 1 ≤ load.label.load) (R first) (λ load above is. let same : number
-        ≡ load.label.load = ap (λ (l : Label). l.load) is in omega arith)
-        (loads_from catalog session (number + 1) names) (loads_from-numbers catalog session (number + 1) names))
+    ≡ load.label.load = ap (λ (l : Label). l.load) is in omega arith)
+    (loads_from catalog session (number + 1) names) (loads_from-numbers catalog session (number + 1) names))
     (loads_from-apart catalog session (number + 1) names)
 
 session_loads-sessions : (catalog : List Named) (session : ℕ) (scripts : List Script)
@@ -62,13 +62,13 @@ session_loads-sessions : (catalog : List Named) (session : ℕ) (scripts : List 
 session_loads-sessions catalog session [] = All-nil (λ load. session ≤ load.label.session)
 session_loads-sessions catalog session (script ∷ scripts) =
     All-append (λ load. session ≤ load.label.session) (loads_from catalog session 1 (loaded_names script.commands))
-        (session_loads catalog (session + 1) scripts)
+    (session_loads catalog (session + 1) scripts)
     (All-weaker (λ (load : LoadName). load.label.session ≡ session) (λ load. session ≤ load.label.session)
-        (λ load same. omega (arith, same)) (loads_from catalog session 1 (loaded_names script.commands))
-        (loads_from-session catalog session 1 (loaded_names script.commands)))
+    (λ load same. omega (arith, same)) (loads_from catalog session 1 (loaded_names script.commands))
+    (loads_from-session catalog session 1 (loaded_names script.commands)))
     (All-weaker (λ (load : LoadName). session + 1 ≤ load.label.session) (λ load. session ≤ load.label.session)
-        (λ load above. omega arith) (session_loads catalog (session + 1) scripts)
-        (session_loads-sessions catalog (session + 1) scripts))
+    (λ load above. omega arith) (session_loads catalog (session + 1) scripts)
+    (session_loads-sessions catalog (session + 1) scripts))
 
 session_loads-apart : (catalog : List Named) (session : ℕ) (scripts : List Script)
     → AllPairs (λ one other. one.label ≢ other.label) (session_loads catalog session scripts)
@@ -79,14 +79,14 @@ session_loads-apart catalog session (script ∷ scripts) =
     let later : List LoadName = session_loads catalog (session + 1) scripts in
     let from : (one : LoadName) → one.label.session ≡ session → All (R one) later = λ one at.
     All-weaker (λ (load : LoadName). session + 1 ≤ load.label.session) (R one)
-        (λ load above is. let same : one.label.session
-        ≡ load.label.session =
-        ap (λ (l : Label). l.session) is in omega (arith, at)) later
-        (session_loads-sessions catalog (session + 1) scripts) in
+    (λ load above is. let same : one.label.session
+    ≡ load.label.session =
+    ap (λ (l : Label). l.session) is in omega (arith, at)) later
+    (session_loads-sessions catalog (session + 1) scripts) in
     pairs_append R here later (loads_from-apart catalog session 1 (loaded_names script.commands))
-        (session_loads-apart catalog (session + 1) scripts)
+    (session_loads-apart catalog (session + 1) scripts)
     (All-weaker (λ (load : LoadName). load.label.session ≡ session) (λ load. All (R load) later) from here
-        (loads_from-session catalog session 1 (loaded_names script.commands)))
+    (loads_from-session catalog session 1 (loaded_names script.commands)))
 
 one_or_none : {X : Type 0} (o : Option X) (xs : List X) (n : ℕ) → length xs ≤ n → length (cons_option o xs) ≤ suc n
 one_or_none None xs n few = omega arith
@@ -104,8 +104,15 @@ few_loads catalog session [] = omega arith
 few_loads catalog session (script ∷ scripts) =
     let first = length-loads_from catalog session 1 (loaded_names script.commands) in
     let sum = sum_by-append (λ (s : Script). length s.commands) (script ∷ []) scripts in
-    omega (arith, first, sum, few_names script.commands, few_loads catalog (session + 1) scripts, length-append
-        (loads_from catalog session 1 (loaded_names script.commands)) (session_loads catalog (session + 1) scripts))
+    omega (
+      arith,
+      first,
+      sum,
+      few_names script.commands,
+      few_loads catalog (session + 1) scripts,
+      length-append
+          (loads_from catalog session 1 (loaded_names script.commands)) (session_loads catalog (session + 1) scripts),
+    )
 
 -- each load names a file of the catalog
 pub loads_known : (setup : Setup) → All (λ load. load.bundle < length setup.world.catalog) setup.loads
@@ -118,8 +125,12 @@ pub sound_world : (setup : Setup) → IsSound setup → IsSoundWorld setup.world
 unfolding loads_of
 sound_world setup sound =
     let few : length setup.loads ≤ 256 =
-        omega (arith, ap length setup.loads_named, few_loads setup.world.catalog 1 setup.scripts,
-        sound.few_commands) in
+    omega (
+      arith,
+      ap length setup.loads_named,
+      few_loads setup.world.catalog 1 setup.scripts,
+      sound.few_commands,
+    ) in
     record {
       catalog = sound.catalog;
       few = few;
@@ -137,17 +148,23 @@ label_from : (catalog : List Named) (session number : ℕ) (names : List (List �
 label_from catalog session number [] i below = absurd (omega arith)
 label_from catalog session number (name ∷ names) zero below =
     let first : LoadName =
-        record { label = record { session = session; load = number }; bundle = catalog_place catalog name } in
-    let same : number ≡ number + 0 = omega arith in
-    (first, (0, omega arith, refl), ap
-        (λ (n : ℕ). let label : Label = record { session = session; load = n } in label) same)
+    record { label = record { session = session; load = number }; bundle = catalog_place catalog name } in
+    let same : number ≡ number + 0 = omega arith in (
+      first,
+      (0, omega arith, refl),
+      ap
+          (λ (n : ℕ). let label : Label = record { session = session; load = n } in label) same,
+    )
 label_from catalog session number (name ∷ names) (suc i) below =
     let first : LoadName =
-        record { label = record { session = session; load = number }; bundle = catalog_place catalog name } in
+    record { label = record { session = session; load = number }; bundle = catalog_place catalog name } in
     let rest = label_from catalog session (number + 1) names i (omega arith) in
-    let same : number + 1 + i ≡ number + suc i = omega arith in
-    (rest.0, Contains-append_right (first ∷ []) (loads_from catalog session (number + 1) names) rest.0 rest.1, rest.2
-        ∙ ap (λ (n : ℕ). let label : Label = record { session = session; load = n } in label) same)
+    let same : number + 1 + i ≡ number + suc i = omega arith in (
+      rest.0,
+      Contains-append_right (first ∷ []) (loads_from catalog session (number + 1) names) rest.0 rest.1,
+      rest.2
+          ∙ ap (λ (n : ℕ). let label : Label = record { session = session; load = n } in label) same,
+    )
 
 label_in : (catalog : List Named) (from : ℕ) (scripts : List Script) (place : ℕ) (script : Script) (i : ℕ)
     → slice_get scripts place ≡ Some script → i < length (loaded_names script.commands)
@@ -156,18 +173,24 @@ label_in catalog from [] place script i at below = cc
 label_in catalog from (first ∷ scripts) zero script i at below =
     let is : first ≡ script = cc in
     let low : i < length (loaded_names first.commands) =
-        subst (λ (s : Script). i < length (loaded_names s.commands)) (sym is) below in
+    subst (λ (s : Script). i < length (loaded_names s.commands)) (sym is) below in
     let here = label_from catalog from 1 (loaded_names first.commands) i low in
-    let same : from ≡ from + 0 = omega arith in
-    (here.0, Contains-append_left (loads_from catalog from 1 (loaded_names first.commands))
-        (session_loads catalog (from + 1) scripts) here.0 here.1, here.2
-        ∙ ap (λ (s : ℕ). let label : Label = record { session = s; load = 1 + i } in label) same)
+    let same : from ≡ from + 0 = omega arith in (
+      here.0,
+      Contains-append_left (loads_from catalog from 1 (loaded_names first.commands))
+          (session_loads catalog (from + 1) scripts) here.0 here.1,
+      here.2
+          ∙ ap (λ (s : ℕ). let label : Label = record { session = s; load = 1 + i } in label) same,
+    )
 label_in catalog from (first ∷ scripts) (suc place) script i at below =
     let later = label_in catalog (from + 1) scripts place script i at below in
-    let same : from + 1 + place ≡ from + suc place = omega arith in
-    (later.0, Contains-append_right (loads_from catalog from 1 (loaded_names first.commands))
-        (session_loads catalog (from + 1) scripts) later.0 later.1, later.2
-        ∙ ap (λ (s : ℕ). let label : Label = record { session = s; load = 1 + i } in label) same)
+    let same : from + 1 + place ≡ from + suc place = omega arith in (
+      later.0,
+      Contains-append_right (loads_from catalog from 1 (loaded_names first.commands))
+          (session_loads catalog (from + 1) scripts) later.0 later.1,
+      later.2
+          ∙ ap (λ (s : ℕ). let label : Label = record { session = s; load = 1 + i } in label) same,
+    )
 
 -- a session with a command is one of the setup's
 pub record IsScript (setup : Setup) (session : ℕ) (script : Script) : Type 0 where
@@ -195,9 +218,14 @@ pub script_of : (setup : Setup) (session n : ℕ) (command : Command)
     → slice_get (commands_of setup session) n ≡ Some command → (script : Script) × IsScript setup session script
 script_of setup zero n command at = cc
 script_of setup (suc s) n command at =
-    let it = script_at setup (suc s) n command (numbered setup.scripts (suc s)) refl at in
-    (it.0, record { counted = omega arith; there = sym (numbered_is setup.scripts (suc s) (omega arith)) ∙ it.1;
-        commands = ap (λ o. option_map_or (λ (x : Script). x.commands) o []) it.1 })
+    let it = script_at setup (suc s) n command (numbered setup.scripts (suc s)) refl at in (
+      it.0,
+      record {
+        counted = omega arith;
+        there = sym (numbered_is setup.scripts (suc s) (omega arith)) ∙ it.1;
+        commands = ap (λ o. option_map_or (λ (x : Script). x.commands) o []) it.1;
+      },
+    )
 
 one_loaded : {X : Type 0} (o : Option X) (xs : List X) → o ≢ None → length (cons_option o xs) ≡ suc (length xs)
 one_loaded None xs loads = absurd (loads refl)
@@ -209,9 +237,9 @@ pub loads_next : (commands : List Command) (n : ℕ) (command : Command) → sli
     → length (loaded_names (take (n + 1) commands)) ≡ length (loaded_names (take n commands)) + 1
 loads_next commands n command at loads =
     let split = ap loaded_names (take_next commands n command at)
-        ∙ filter_map-append loaded_name (take n commands) (command ∷ []) in
+    ∙ filter_map-append loaded_name (take n commands) (command ∷ []) in
     ap length split ∙ length-append (loaded_names (take n commands)) (loaded_names (command ∷ []))
-        ∙ ap (λ k. length (loaded_names (take n commands)) + k) (one_loaded (loaded_name command) [] loads)
+    ∙ ap (λ k. length (loaded_names (take n commands)) + k) (one_loaded (loaded_name command) [] loads)
 
 -- the loads of a front are among all
 pub front_loads : (commands : List Command) (n : ℕ)
@@ -232,38 +260,47 @@ next_is_known setup session n command at loads =
     let count : ℕ = length (loaded_names (take n (commands_of setup session))) in
     let whole = front_loads (commands_of setup session) (n + 1) in
     let below : count < length (loaded_names script.commands) =
-        omega (arith, whole, loads_next (commands_of setup session) n command at loads, ap
-        (λ (l : List Command). length (loaded_names l)) it.1.commands) in
+    omega (
+      arith,
+      whole,
+      loads_next (commands_of setup session) n command at loads,
+      ap
+          (λ (l : List Command). length (loaded_names l)) it.1.commands,
+    ) in
     let label = label_in setup.world.catalog 1 setup.scripts (session - 1) script count it.1.there below in
     let same : 1 + (session - 1) ≡ session = omega (arith, it.1.counted) in
     let load : 1 + count ≡ count + 1 = omega arith in
     let P : List LoadName → Type 0 = λ loads. HasLabel loads (next_label setup session n) in
-    subst P (sym setup.loads_named) (label.0, label.1, label.2
-        ∙ ap₂ (λ (s l : ℕ). let label : Label = record { session = s; load = l } in label) same load)
+    subst P (sym setup.loads_named) (
+      label.0,
+      label.1,
+      label.2
+          ∙ ap₂ (λ (s l : ℕ). let label : Label = record { session = s; load = l } in label) same load,
+    )
 
 loads_from-append : (catalog : List Named) (session number : ℕ) (xs ys : List (List ℕ))
     → loads_from catalog session number (xs ++ ys) ≡ loads_from catalog session number xs
-        ++ loads_from catalog session (number + length xs) ys
+    ++ loads_from catalog session (number + length xs) ys
 loads_from-append catalog session number [] ys = let same : number ≡ number + 0 =
     omega arith in ap (λ n. loads_from catalog session n ys) same
 loads_from-append catalog session number (x ∷ xs) ys =
     let same : number + 1 + length xs ≡ number + length (x ∷ xs) = omega arith in
     ap (λ l. record { label = record { session = session; load = number }; bundle = catalog_place catalog x } ∷ l)
     (loads_from-append catalog session (number + 1) xs ys
-        ∙ ap (λ n. loads_from catalog session (number + 1) xs ++ loads_from catalog session n ys) same)
+    ∙ ap (λ n. loads_from catalog session (number + 1) xs ++ loads_from catalog session n ys) same)
 
 session_loads-append : (catalog : List Named) (session : ℕ) (xs ys : List Script)
     → session_loads catalog session (xs ++ ys) ≡ session_loads catalog session xs
-        ++ session_loads catalog (session + length xs) ys
+    ++ session_loads catalog (session + length xs) ys
 session_loads-append catalog session [] ys = let same : session ≡ session + 0 =
     omega arith in ap (λ n. session_loads catalog n ys) same
 session_loads-append catalog session (x ∷ xs) ys =
     let same : session + 1 + length xs ≡ session + length (x ∷ xs) = omega arith in
     let here : List LoadName = loads_from catalog session 1 (loaded_names x.commands) in
     ap (λ l. here ++ l) (session_loads-append catalog (session + 1) xs ys
-        ∙ ap (λ n. session_loads catalog (session + 1) xs ++ session_loads catalog n ys) same)
+    ∙ ap (λ n. session_loads catalog (session + 1) xs ++ session_loads catalog n ys) same)
     ∙ sym (append_assoc here (session_loads catalog (session + 1) xs)
-        (session_loads catalog (session + length (x ∷ xs)) ys))
+    (session_loads catalog (session + length (x ∷ xs)) ys))
 
 -- the loads of one command more
 pub command_loads : (catalog : List Named) (session load i : ℕ) (commands : List Command) (command : Command)
@@ -278,7 +315,7 @@ command_loads catalog session load i commands command before loads after below i
     grown ∙ ap₂ (λ l n. l ++ loads_from catalog session n more) listed number
     ∙ append_assoc before (loads_from catalog session 1 names) (loads_from catalog session (1 + length names) more)
     ∙ ap (λ l. before ++ l) (sym (loads_from-append catalog session 1 names more)
-        ∙ ap (loads_from catalog session 1) (sym (next_of loaded_name commands i command below is)))
+    ∙ ap (loads_from catalog session 1) (sym (next_of loaded_name commands i command below is)))
 
 one_most : {X : Type 0} (o : Option X) → length (option_to_list o) ≤ 1
 one_most None = omega arith
@@ -306,6 +343,6 @@ script_loads catalog session i scripts script loads after below is number listed
     let one : List LoadName = loads_from catalog session 1 (loaded_names script.commands) in
     grown ∙ ap₂ (λ l n. l ++ loads_from catalog n 1 (loaded_names script.commands)) listed (number ∙ sym count)
     ∙ ap (λ l. session_loads catalog 1 front ++ l)
-        (sym (append-nil (loads_from catalog (1 + length front) 1 (loaded_names script.commands))))
+    (sym (append-nil (loads_from catalog (1 + length front) 1 (loaded_names script.commands))))
     ∙ sym (session_loads-append catalog 1 front (script ∷ []))
     ∙ ap (session_loads catalog 1) (ap (λ s. front ++ s ∷ []) is ∙ sym (take_more scripts i script below))

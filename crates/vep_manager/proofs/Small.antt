@@ -15,7 +15,7 @@ use Rattle.vep_manager.specs.inner.Small.{is_small_script}
 small_parts : (scripts : List Script) (k : ℕ) (d : Script) → list_all is_small_script scripts ≡ true
     → k < length scripts
     → (nat_le (length (get_or scripts k d).commands) 16 ≡ true)
-        × (list_all (λ command. nat_le (stated_cycle command) LAST_STATED_CYCLE) (get_or scripts k d).commands ≡ true)
+    × (list_all (λ command. nat_le (stated_cycle command) LAST_STATED_CYCLE) (get_or scripts k d).commands ≡ true)
 small_parts scripts k d small below = and_parts _ _ (AllPass-from_list_all is_small_script scripts small k d below)
 
 pub small_scripts : (scripts : List Script) → list_all is_small_script scripts ≡ true
@@ -29,11 +29,11 @@ pub small_setup : (setup : Setup) → IsSoundCatalog setup.world → 0 < length 
     → IsSound setup
 small_setup setup catalog some few small budget =
     let short : All (λ script. length script.commands ≤ 16) setup.scripts =
-        λ k d below. leb-true (length (get_or setup.scripts k d).commands) 16
-        (small_parts setup.scripts k d small below).0 in
+    λ k d below. leb-true (length (get_or setup.scripts k d).commands) 16
+    (small_parts setup.scripts k d small below).0 in
     let total = sum_by-le (λ (script : Script). length script.commands) 16 setup.scripts short in
     let cycles = mul-le setup.budget setup.world.platform.slot_cycles 1000 64 budget
-        setup.world.platform.slot_cycles_in_range.1 in
+    setup.world.platform.slot_cycles_in_range.1 in
     record {
       catalog = catalog;
       some_script = some;
@@ -41,9 +41,9 @@ small_setup setup catalog some few small budget =
       few_commands = omega (arith, total, few);
       cycles = λ k d below.
           let all = AllPass-from_list_all (λ command. nat_le (stated_cycle command) LAST_STATED_CYCLE)
-              (get_or setup.scripts k d).commands (small_parts setup.scripts k d small below).1 in
+          (get_or setup.scripts k d).commands (small_parts setup.scripts k d small below).1 in
           λ i e low. let here =
-              leb-true (stated_cycle (get_or (get_or setup.scripts k d).commands i e)) LAST_STATED_CYCLE
-              (all i e low) in omega (arith, here);
+          leb-true (stated_cycle (get_or (get_or setup.scripts k d).commands i e)) LAST_STATED_CYCLE
+          (all i e low) in omega (arith, here);
       budget = omega (arith, cycles);
     }

@@ -38,7 +38,7 @@ use Rattle.vep_manager.proofs.Replied.{next_command, Opens, Closes, Tells, reply
 -- what holds before the first command and is kept by each command holds of a legal history
 go_on : (setup : Setup) (P : List Entry → Type 0)
     → ((before : List Entry) (entry : Entry) → next_entry setup before entry.session ≡ Some entry → P before
-        → P (before ++ entry ∷ []))
+    → P (before ++ entry ∷ []))
     → (before after : List Entry) → IsLegal setup (before ++ after) → P before → P (before ++ after)
 go_on setup P step before [] legal here = subst P (sym (append-nil before)) here
 go_on setup P step before (entry ∷ after) legal here =
@@ -48,7 +48,7 @@ go_on setup P step before (entry ∷ after) legal here =
 
 pub legal_steps : (setup : Setup) (P : List Entry → Type 0) → P []
     → ((before : List Entry) (entry : Entry) → next_entry setup before entry.session ≡ Some entry → P before
-        → P (before ++ entry ∷ []))
+    → P (before ++ entry ∷ []))
     → (history : List Entry) → IsLegal setup history → P history
 legal_steps setup P none step history legal = go_on setup P step [] history legal none
 
@@ -121,7 +121,7 @@ unique : (grants : List Grant) (one other : Grant) → AllPairs (λ one other. o
 unique grants one other apart (i, below, is) (j, low, at) same =
     let here : get_or grants j one ≡ other = get_or_default grants j one other low ∙ at in
     let labels : (get_or grants i one).label ≡ (get_or grants j one).label =
-        ap (λ (g : Grant). g.label) is ∙ same ∙ sym (ap (λ (g : Grant). g.label) here) in
+    ap (λ (g : Grant). g.label) is ∙ same ∙ sym (ap (λ (g : Grant). g.label) here) in
     elim (cases_lt i j) [
       | inl less ↦ absurd (apart i j one less low labels)
       | inr more ↦
@@ -141,7 +141,7 @@ numbered_more : (state : ManagerState) (entry : Entry) (label : Label) → IsNum
     → IsNumbered (grown state entry) label
 numbered_more state entry label low =
     let grows = loads_grow (commands_of state.setup label.session) (count_of state.history label.session)
-        (count_of (state.history ++ entry ∷ []) label.session) (count_grows state.history entry label.session) in
+    (count_of (state.history ++ entry ∷ []) label.session) (count_grows state.history entry label.session) in
     omega (arith, low, grows)
 
 -- a fact of each grant after a reply
@@ -163,7 +163,7 @@ pairs_after reply None grants S stays old new =
     (pairs_map S S (ended_by reply) stays grants old)
 pairs_after reply (Some grant) grants S stays old new =
     all_pairs_push S (map (ended_by reply) grants) grant (pairs_map S S (ended_by reply) stays grants old)
-        (All-map (λ (one : Grant). S one grant) (ended_by reply) grants new)
+    (All-map (λ (one : Grant). S one grant) (ended_by reply) grants new)
 
 if_weaker : {X : Type 0} (o : Option X) (P Q : X → Type 0) → ((x : X) → P x → Q x) → IfSome o P → IfSome o Q
 if_weaker None P Q weaker here = here
@@ -196,7 +196,7 @@ count_there : (history : List Entry) (entry : Entry) (session : ℕ) → entry.s
 count_there history entry session other =
     let same : count_of history session + 0 ≡ count_of history session = omega arith in
     count_of-append history entry session
-        ∙ ap (λ b. count_of history session + cond b 1 0) (ne_eqb entry.session session other) ∙ same
+    ∙ ap (λ b. count_of history session + cond b 1 0) (ne_eqb entry.session session other) ∙ same
 
 -- the count of a session that isn't among some
 counts_there : (history : List Entry) (entry : Entry) (from sessions : ℕ) → entry.session < from
@@ -204,7 +204,7 @@ counts_there : (history : List Entry) (entry : Entry) (from sessions : ℕ) → 
 counts_there history entry from zero low = refl
 counts_there history entry from (suc sessions) low =
     ap₂ (λ a b. a + b) (count_there history entry from (λ e. omega arith))
-        (counts_there history entry (from + 1) sessions (omega arith))
+    (counts_there history entry (from + 1) sessions (omega arith))
 
 -- one entry more of a session counts once
 counts_more : (history : List Entry) (entry : Entry) (from sessions : ℕ) → from ≤ entry.session
@@ -220,8 +220,8 @@ counts_more history entry from (suc sessions) low high =
       | inr here ↦
           let same : entry.session ≡ from = omega arith in
           let one : count_of (history ++ entry ∷ []) from ≡ count_of history from + 1 =
-              subst (λ (s : ℕ). count_of (history ++ entry ∷ []) s ≡ count_of history s + 1) same
-              (count_here history entry) in
+          subst (λ (s : ℕ). count_of (history ++ entry ∷ []) s ≡ count_of history s + 1) same
+          (count_here history entry) in
           let later = counts_there history entry (from + 1) sessions (omega arith) in
           omega (arith, one, later)
     ]
@@ -237,7 +237,7 @@ new_number : (state : ManagerState) (limit : ℕ) (entry : Entry) (grant : Grant
     → Opens state limit entry.session grant → IsNumbered (grown state entry) grant.label
 new_number state limit entry grant opens =
     let count = ap (λ n. length (loaded_names (take n (commands_at state entry.session))))
-        (count_here state.history entry) in
+    (count_here state.history entry) in
     let high : IsNumbered (grown state entry) (label_at state entry.session) = omega (arith, count, opens.more) in
     subst (λ (l : Label). IsNumbered (grown state entry) l) (sym opens.label) high
 
@@ -245,7 +245,7 @@ fresh_label : (state : ManagerState) (limit session : ℕ) (reply : Reply) (labe
     → Tells state limit session reply → reply ≡ Granted label start → label ≡ label_at state session
 fresh_label state limit session reply label start tells is =
     let here : IfSome (opened_by state.setup (Granted label start)) (Opens state limit session) =
-        subst (λ (r : Reply). IfSome (opened_by state.setup r) (Opens state limit session)) is tells.opens in
+    subst (λ (r : Reply). IfSome (opened_by state.setup r) (Opens state limit session)) is tells.opens in
     here.label
 
 no_end : (o : Option ℕ) → ((n : ℕ) → o ≡ Some n → ⊥) → o ≡ None
@@ -258,7 +258,7 @@ closed_here : (state : ManagerState) (limit : ℕ) (grant : Grant) (end : ℕ)
     → Closes state limit grant.label end → grant.start ≤ end
 closed_here state limit grant end apart inside closes =
     let same : closes.grant ≡ grant =
-        unique (grants_at state) closes.grant grant apart.labelled closes.inside inside closes.named in
+    unique (grants_at state) closes.grant grant apart.labelled closes.inside inside closes.named in
     let start : closes.grant.start ≡ grant.start = ap (λ (g : Grant). g.start) same in
     omega (arith, start, closes.after)
 
@@ -287,23 +287,23 @@ apart_after state limit session reply before tells =
       labelled = pairs_after reply (opened_by state.setup reply) grants (λ one other. one.label ≢ other.label)
           (λ one other apart. apart) before.apart.labelled
           (if_weaker (opened_by state.setup reply) O _
-              (λ grant opens k d below same. no_number state session (get_or grants k d).label (same ∙ opens.label)
-              (before.numbered k d below)) tells.opens);
+          (λ grant opens k d below same. no_number state session (get_or grants k d).label (same ∙ opens.label)
+          (before.numbered k d below)) tells.opens);
       in_order = all_after state.setup reply (opened_by state.setup reply) grants
           (λ grant. IfSome grant.end (λ end. grant.start ≤ end))
           (λ k d below. if_or (get_or grants k d).end (end_by (get_or grants k d).label reply)
-              (λ end. (get_or grants k d).start ≤ end) (before.apart.in_order k d below)
-              (λ end e. closed_here state limit (get_or grants k d) end before.apart
-              (Contains-get_or grants k d below) (tells.closes (get_or grants k d).label end e)))
+          (λ end. (get_or grants k d).start ≤ end) (before.apart.in_order k d below)
+          (λ end e. closed_here state limit (get_or grants k d) end before.apart
+          (Contains-get_or grants k d below) (tells.closes (get_or grants k d).label end e)))
           (if_weaker (opened_by state.setup reply) O (λ grant. IfSome grant.end (λ end. grant.start ≤ end))
-              (λ grant opens. subst (λ (o : Option ℕ). IfSome o (λ end. grant.start ≤ end)) (sym opens.endless) tt)
-              tells.opens);
+          (λ grant opens. subst (λ (o : Option ℕ). IfSome o (λ end. grant.start ≤ end)) (sym opens.endless) tt)
+          tells.opens);
       apart = pairs_after reply (opened_by state.setup reply) grants (Meets state.setup)
           (meets_stay state.setup reply) before.apart.apart
           (if_weaker (opened_by state.setup reply) O _
-              (λ grant opens k d below meet. inl
-              (and_or (get_or grants k d).end (end_by (get_or grants k d).label reply) (λ end. end < grant.start)
-              (opens.clear (get_or grants k d) (Contains-get_or grants k d below) meet))) tells.opens);
+          (λ grant opens k d below meet. inl
+          (and_or (get_or grants k d).end (end_by (get_or grants k d).label reply) (λ end. end < grant.start)
+          (opens.clear (get_or grants k d) (Contains-get_or grants k d below) meet))) tells.opens);
     }
 
 within_more : (state : ManagerState) (entry : Entry) (command : Command)
@@ -315,7 +315,7 @@ within_more state entry command at before session =
       | inl same ↦
           let low = slice_get_within (commands_at state entry.session) (done_at state entry.session) command at in
           subst (λ (s : ℕ). count_of (state.history ++ entry ∷ []) s ≤ length (commands_of state.setup s)) same
-              (omega (arith, low, count_here state.history entry))
+          (omega (arith, low, count_here state.history entry))
       | inr other ↦ omega (arith, before session, count_there state.history entry session other)
     ]
 
@@ -328,8 +328,8 @@ grants_more state limit entry within next before =
     let tells = reply_tells state limit entry.session it.0 entry.reply within before.begin_early it.1 in
     let fresh = λ (label : Label) (start : ℕ) (is : entry.reply ≡ Granted label start).
     no_end (end_in state.history label)
-        (λ end e. no_number state entry.session label
-        (fresh_label state limit entry.session entry.reply label start tells is) (before.ended label end e)) in
+    (λ end e. no_number state entry.session label
+    (fresh_label state limit entry.session entry.reply label start tells is) (before.ended label end e)) in
     grants_of-append state.setup state.history entry fresh
 
 pub standing_more : (state : ManagerState) (limit : ℕ) (entry : Entry) → StatesWithin state.setup limit
@@ -342,12 +342,12 @@ standing_more state limit entry within next before =
     let tells = reply_tells state limit entry.session it.0 reply within before.begin_early it.1 in
     let grants : List Grant = grants_at state in
     let opened : grants_at (grown state entry) ≡ map (ended_by reply) grants ++ option_to_list o =
-        grants_more state limit entry within next before in
+    grants_more state limit entry within next before in
     let all : (Q : Grant → Type 0)
-        → ((k : ℕ) (d : Grant) → k < length grants → Q (ended_by reply (get_or grants k d)))
-        → ((grant : Grant) → O grant → Q grant) → All Q (grants_at (grown state entry)) = λ Q old new.
+    → ((k : ℕ) (d : Grant) → k < length grants → Q (ended_by reply (get_or grants k d)))
+    → ((grant : Grant) → O grant → Q grant) → All Q (grants_at (grown state entry)) = λ Q old new.
     subst (λ (l : List Grant). All Q l) (sym opened)
-        (all_after state.setup reply o grants Q old (if_weaker o O Q new tells.opens)) in
+    (all_after state.setup reply o grants Q old (if_weaker o O Q new tells.opens)) in
     let script = script_of state.setup entry.session (done_at state entry.session) it.0 it.1.at in
     record {
       apart = subst (IsApart state.setup.world) (sym opened)
@@ -358,29 +358,29 @@ standing_more state limit entry within next before =
           (λ grant opens. opens.early);
       end_early = all (EndsEarly state.setup limit)
           (λ k d below. if_or (get_or grants k d).end (end_by (get_or grants k d).label reply)
-              (λ end. IsEarly state.setup limit end) (before.end_early k d below)
-              (λ end e. (tells.closes (get_or grants k d).label end e).early))
+          (λ end. IsEarly state.setup limit end) (before.end_early k d below)
+          (λ end e. (tells.closes (get_or grants k d).label end e).early))
           (λ grant opens. subst (λ (e : Option ℕ). IfSome e (λ end. IsEarly state.setup limit end))
-              (sym opens.endless) tt);
+          (sym opens.endless) tt);
       numbered = all (λ grant. IsNumbered (grown state entry) grant.label)
           (λ k d below. numbered_more state entry (get_or grants k d).label (before.numbered k d below))
           (new_number state limit entry);
       ended = λ label end e.
           elim (or_some (end_in state.history label) (end_by label reply) end
-              (sym (end_in-append state.history entry label) ∙ e)) [
+          (sym (end_in-append state.history entry label) ∙ e)) [
             | inl old ↦ numbered_more state entry label (before.ended label end old)
             | inr new ↦
                 let closes = tells.closes label end new in
                 numbered_more state entry label
-                    (subst (IsNumbered state) closes.named
-                    (All-contains (λ (g : Grant). IsNumbered state g.label) grants closes.grant before.numbered
-                    closes.inside))
+                (subst (IsNumbered state) closes.named
+                (All-contains (λ (g : Grant). IsNumbered state g.label) grants closes.grant before.numbered
+                closes.inside))
           ];
       within = within_more state entry it.0 it.1.at before.within;
       total =
           let low = slice_get_within state.setup.scripts (entry.session - 1) script.0 script.1.there in
           let more = counts_more state.history entry 1 (length state.setup.scripts) (omega (arith, script.1.counted))
-              (omega (arith, script.1.counted, low)) in
+          (omega (arith, script.1.counted, low)) in
           omega (arith, more, before.total, length-append state.history (entry ∷ []));
     }
 
@@ -389,4 +389,4 @@ pub standing : (state : ManagerState) (limit : ℕ) → StatesWithin state.setup
 standing state limit within legal =
     legal_steps state.setup (λ history. Standing (held state.setup history) limit) (standing_none state.setup limit)
     (λ before entry next here. standing_more (held state.setup before) limit entry within next here) state.history
-        legal
+    legal

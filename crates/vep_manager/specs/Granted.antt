@@ -33,4 +33,4 @@ GrantsStayApart setup = (history : List Entry) → IsLegal setup history → IsA
 abbrev pub GrantsAreEarly : Setup → Type 0
 GrantsAreEarly setup =
     (limit : ℕ) (history : List Entry) → StatesWithin setup limit → IsLegal setup history
-        → AreGranted setup limit history
+    → AreGranted setup limit history

@@ -54,7 +54,7 @@ abbrev pub promise_of : Setup → ℕ → ℕ → ℕ
 promise_of setup session done =
     if nat_le (length (commands_of setup session)) done then setup.budget
     else min setup.budget
-        (fold (λ most slot. max most slot) 0 (filter_map (until_slot setup) (take done (commands_of setup session))))
+    (fold (λ most slot. max most slot) 0 (filter_map (until_slot setup) (take done (commands_of setup session))))
 
 -- the least promise of the sessions, of which so many commands stand in the history
 abbrev pub horizon_with : Setup → (ℕ → ℕ) → ℕ

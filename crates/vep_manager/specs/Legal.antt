@@ -10,7 +10,7 @@ use Rattle.vep_manager.specs.Replies.{next_entry}
 abbrev pub IsLegal : Setup → List Entry → Type 0
 IsLegal setup history =
     (before : List Entry) (entry : Entry) (after : List Entry) → history ≡ before ++ entry ∷ after
-        → next_entry setup before entry.session ≡ Some entry
+    → next_entry setup before entry.session ≡ Some entry
 
 -- every command of every script stands in the history
 abbrev pub IsComplete : Setup → List Entry → Type 0

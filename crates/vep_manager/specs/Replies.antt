@@ -28,7 +28,7 @@ abbrev pub first_conflict : World → List Grant → ℕ → List Resource → O
 first_conflict world grants start [] = None
 first_conflict world grants start (resource ∷ resources) =
     option_map_or (λ grant. Some (taken_by resource grant)) (find (conflicts world start resource) grants)
-        (first_conflict world grants start resources)
+    (first_conflict world grants start resources)
 
 -- the answer to a load of a bundle that breaks no rule and has these resources, in this order: the start
 -- is below the horizon; a resource is held; or else it is granted
@@ -59,7 +59,7 @@ stop_reply horizon slot (Some grant) = option_map_or (λ end. Already end) grant
 abbrev pub judged_of : Setup → Label → Option (Result Bundle BRule)
 judged_of setup label =
     option_and_then (λ load. option_map (λ named. named.judged) (slice_get setup.world.catalog load.bundle))
-        (find (λ load. same_label load.label label) setup.loads)
+    (find (λ load. same_label load.label label) setup.loads)
 
 -- the label of a session's next load, where so many of its commands stand in the history
 abbrev pub next_label : Setup → ℕ → ℕ → Label
@@ -78,7 +78,7 @@ label_reply setup history label start = option_map (load_reply setup history lab
 abbrev pub label_stop : Setup → List Entry → Label → ℕ → Reply
 label_stop setup history label slot =
     stop_reply (horizon_of setup history) slot
-        (find (λ grant. same_label grant.label label) (grants_of setup history))
+    (find (λ grant. same_label grant.label label) (grants_of setup history))
 
 -- the answer to a command of a session
 abbrev pub reply_to : Setup → List Entry → ℕ → Command → Option Reply
@@ -93,4 +93,4 @@ unfoldable pub next_entry : Setup → List Entry → ℕ → Option Entry
 next_entry setup history session =
     let index = count_of history session + 1 in
     option_map (λ reply. record { session = session; index = index; reply = reply })
-        (option_and_then (reply_to setup history session) (numbered (commands_of setup session) index))
+    (option_and_then (reply_to setup history session) (numbered (commands_of setup session) index))

@@ -30,10 +30,10 @@ mod setup;
 mod tests;
 
 pub use granting::reply_grant;
-pub use theorems::{
-    complete_histories_are_settled, empty_history_is_legal, legal_grants_are_apart, loads_are_sound,
-};
 pub use loads::named_loads;
 pub use manager::Manager;
 pub use reply::{Entry, Reply};
 pub use setup::Setup;
+pub use theorems::{
+    complete_histories_are_settled, empty_history_is_legal, legal_grants_are_apart, loads_are_sound,
+};

@@ -38,8 +38,12 @@ impl<'s> Model for Manager<'s> {
     ghost view = { λ m. record { setup = m.setup.now; history = m.history.items } };
 
     ghost invariant = { λ m. IsKept (record { setup = m.setup.now; history = m.history.items })
-        (record { grants = m.grants.items; horizon = m.horizon;
-        entry_room = vec_capacity m.history; grant_room = vec_capacity m.grants })
+        (record {
+          grants = m.grants.items;
+          horizon = m.horizon;
+          entry_room = vec_capacity m.history;
+          grant_room = vec_capacity m.grants;
+        })
         × (m.claims ≡ m.setup.now.world) };
 }
 

@@ -36,7 +36,7 @@ rows_on stations label part = option_map_or (λ log. log.rows) (log_on stations 
 abbrev pub line_on : List Station → Label → Part → List ℕ
 line_on stations label part =
     option_map_or (λ log. part_text (record { tile = part.tile; end = log.end; cut = log.cut }))
-        (log_on stations label part) []
+    (log_on stations label part) []
 
 -- the grants that some entries of a history give
 unfoldable pub grants_in : Setup → List Entry → List Entry → List Grant
@@ -47,7 +47,7 @@ unfoldable pub app_line : Setup → Grant → List ℕ
 app_line setup grant =
     codes "app " ++ label_text grant.label ++ codes " " ++ name_at setup.world grant.bundle
     ++ from_to_text (grant.start * setup.world.platform.slot_cycles)
-        (stop_slot setup.budget grant * setup.world.platform.slot_cycles)
+    (stop_slot setup.budget grant * setup.world.platform.slot_cycles)
 
 -- the first line of an application, these rows, and the lines of parts with the logs of its load
 abbrev pub parts_text : Setup → List Station → Grant → List Part → List TraceRow → List ℕ

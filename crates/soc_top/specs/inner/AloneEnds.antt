@@ -18,7 +18,7 @@ Runs old before new now inputs request Done =
     (text : List ℕ) × IsAloneText inputs.platform inputs.bundle request text × Appends old text new
 Runs old before new now inputs request Unwritten =
     (text : List ℕ) × IsAloneText inputs.platform inputs.bundle request text × AppendsFront old text new
-        × Rose before now
+    × Rose before now
 Runs old before new now inputs request (Refused fault) =
     (fault ≡ NoMemory) × ((failed : Bool) × Printed (fault_line fault) old before new now failed)
 
@@ -27,5 +27,5 @@ abbrev pub Ends : Exchange → AloneWords → Ending → Type 0
 Ends e request Done = (text : List ℕ) × TextOf e.held request text × Appends e.written text e.written_now
 Ends e request Unwritten =
     (text : List ℕ) × TextOf e.held request text × AppendsFront e.written text e.written_now
-        × Rose e.write_faults e.write_faults_now
+    × Rose e.write_faults e.write_faults_now
 Ends e request (Refused fault) = Refuses e request fault

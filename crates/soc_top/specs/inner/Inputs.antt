@@ -11,6 +11,6 @@ use Rattle.soc_top.specs.Alone.{Cause}
 abbrev pub LoadsInputs : Option Held → ℕ → ℕ → AloneWords → Result Inputs TopFault → Type 0
 LoadsInputs (Some held) before now request (Ok inputs) =
     HoldsPlatform held request.platform inputs.platform
-        × HoldsBundle inputs.platform held request.bundle inputs.bundle
+    × HoldsBundle inputs.platform held request.bundle inputs.bundle
 LoadsInputs None before now request (Ok inputs) = Unit {0}
 LoadsInputs told before now request (Err fault) = Cause told before now request fault

@@ -28,8 +28,8 @@ catalog_names catalog = map (λ named. named.name) catalog
 abbrev pub IsNext : Held → List (List ℕ) → List ℕ → Type 0
 IsNext held names name =
     (before : List (List ℕ))
-        × ((after : List (List ℕ)) × (names ≡ before ++ name ∷ after)
-        × All (λ earlier. IsSome (held_at held earlier)) before)
+    × ((after : List (List ℕ)) × (names ≡ before ++ name ∷ after)
+    × All (λ earlier. IsSome (held_at held earlier)) before)
 
 -- why not each of the bundle files of these names is read
 abbrev pub ToldNoCatalog : Held → ℕ → ℕ → List (List ℕ) → TopFault → Type 0

@@ -24,5 +24,5 @@ abbrev pub EndsRun : Exchange → RunWords → Ending → Type 0
 EndsRun e request Done = (text : List ℕ) × ReportOf e.held request text × Appends e.written text e.written_now
 EndsRun e request Unwritten =
     (text : List ℕ) × ReportOf e.held request text × AppendsFront e.written text e.written_now
-        × Rose e.write_faults e.write_faults_now
+    × Rose e.write_faults e.write_faults_now
 EndsRun e request (Refused fault) = RefusesRun e request fault

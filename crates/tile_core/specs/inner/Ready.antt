@@ -38,6 +38,7 @@ CanEnd world tile grant =
     (place : ℕ) (part : Part) → load_place tile grant.label ≡ Some place → load_part world tile place ≡ Some part
     → CanLeave tile part
 
+-- what beginning a grant asks: where its load has a part on the tile, there is room for it
 abbrev pub CanBegin : World → TileState → Grant → Type 0
 CanBegin world tile grant =
     (place : ℕ) (part : Part) → load_place tile grant.label ≡ Some place → load_part world tile place ≡ Some part

@@ -31,10 +31,12 @@ ran_part costs cycle n tile place None = tile
 ran_part costs cycle n tile place (Some part) =
     with_state tile place part (ran costs cycle n part (held_state tile place part))
 
+-- the same for the part of the load at a place
 abbrev pub ran_place : (ℕ → Option Part) → Costs → ℕ → ℕ → TileState → Option ℕ → TileState
 ran_place parts costs cycle n tile None = tile
 ran_place parts costs cycle n tile (Some place) = ran_part costs cycle n tile place (parts place)
 
+-- the same for the part with a number, if one is held
 abbrev pub ran_held : (ℕ → Option Part) → Costs → ℕ → ℕ → TileState → Option ℕ → TileState
 ran_held parts costs cycle n tile None = tile
 ran_held parts costs cycle n tile (Some number) = ran_place parts costs cycle n tile (place_at tile number)

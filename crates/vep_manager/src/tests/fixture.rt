@@ -126,7 +126,11 @@ fn setup_of(alloc: Global, world: World, budget: u64, scripts: Items<Script>) ->
     requires { IsSoundCatalog world }
     ensures { IfOk result IsSound }
 {
-    if scripts.len() == 0 || scripts.len() > MOST_SCRIPTS || world.catalog.len() > 100 || budget > 1000 {
+    if scripts.len() == 0
+        || scripts.len() > MOST_SCRIPTS
+        || world.catalog.len() > 100
+        || budget > 1000
+    {
         return Err(Fail::new("the run is too long"));
     }
     if !are_small(scripts.as_slice()) {

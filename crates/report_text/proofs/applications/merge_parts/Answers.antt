@@ -6,9 +6,13 @@ use Rattle.report_text.proofs.applications.merge_parts.Goals as goal
 
 pub merge_part-requires-clause-room : goal.merge_part-requires-clause-room
 merge_part-requires-clause-room c =
-    omega (arith, room_for_more (rows_on c.args.stations.now c.args.label) c.args.parts.now c.loop-part.part-index
-        c.part-item.result c.loop-part.rows.items (omega arith) c.part-item.is c.loop-part.invariant.0, c.requires,
-        c.loop-part.invariant.2)
+    omega (
+      arith,
+      room_for_more (rows_on c.args.stations.now c.args.label) c.args.parts.now c.loop-part.part-index
+          c.part-item.result c.loop-part.rows.items (omega arith) c.part-item.is c.loop-part.invariant.0,
+      c.requires,
+      c.loop-part.invariant.2,
+    )
 
 pub loop-part-preserved : goal.loop-part-preserved
 loop-part-preserved c = (

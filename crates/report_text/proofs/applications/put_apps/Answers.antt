@@ -7,7 +7,7 @@ use Rattle.report_text.proofs.applications.put_apps.Goals as goal
 pub put_reply_app-requires-clause-alone : goal.put_reply_app-requires-clause-alone
 put_reply_app-requires-clause-alone g c =
     granted_at (HoldsAlone c.args.setup.now c.args.stations.now) c.args.setup.now c.args.history.now
-        c.loop-entry.entry-index _ (omega arith) c.requires.alone
+    c.loop-entry.entry-index _ (omega arith) c.requires.alone
 
 pub loop-entry-init : goal.loop-entry-init
 loop-entry-init g c =

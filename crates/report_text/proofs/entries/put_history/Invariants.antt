@@ -7,5 +7,5 @@ use Rattle.report_text.proofs.entries.put_history.Given as goal
 abbrev pub invariant-loop-entry : goal.invariant-loop-entry
 invariant-loop-entry g l =
     PrintsMore g.S.Sink.written g.S.Sink.faults l.fn.printer l.printer
-        (flat_map (entry_text l.setup) (take l.entry-index l.history))
+    (flat_map (entry_text l.setup) (take l.entry-index l.history))
     × (l.printer.sink.ghost_name ≡ l.fn.printer.sink.ghost_name)

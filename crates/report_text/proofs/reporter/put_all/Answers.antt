@@ -8,7 +8,7 @@ unfolding report_text
 returns-clause-printed g c =
     let (apps, are, prints) = c.put_apps.ensures.printed in
     let before = prints_then _ _ _ _ _ _ _ _ _ _ _ c.put_head.ensures.printed
-        (rw c.as_slice-history.ensures at c.put_history.ensures.printed) in
+    (rw c.as_slice-history.ensures at c.put_history.ensures.printed) in
     let after = prints_then _ _ _ _ _ _ _ _ _ _ _ before prints in (
       report_text c.args.setup.now c.args.end.now.history apps,
       record { apps = apps; are_apps = rw (← c.as_slice-history.ensures) are; is_text = refl },

@@ -11,6 +11,6 @@ returns c =
     (YieldsList-from_take 5 (YieldsList-at c.take.ensures.source
     (YieldsList-from_filter _ has_bytes (YieldsList-at c.filter.ensures.source
     (YieldsList-from_slice_split _ is_blank c.args.line.now c.split.ensures.rest c.split.ensures.done
-        c.split.ensures.closure (λ x r q k. search (rules, tests))))
+    c.split.ensures.closure (λ x r q k. search (rules, tests))))
     c.filter.ensures.closure (λ x r q k. search (rules, tests))))
     c.take.ensures.count)

@@ -9,18 +9,18 @@ use Rattle.script_file.proofs.reader.read_script.Goals as goal
 pub returns-in-Err : goal.returns-in-Err
 returns-in-Err c =
     let next = YieldsList-turn
-        (YieldsList-at c.into_iter-line-iterator.ensures.into_iter_gives
-        (YieldsList-from_slice_split _ is_line_feed c.args.bytes.now c.split-line-items.ensures.rest
-        c.split-line-items.ensures.done c.split-line-items.ensures.closure (λ x r q k. search (rules, tests))))
+    (YieldsList-at c.into_iter-line-iterator.ensures.into_iter_gives
+    (YieldsList-from_slice_split _ is_line_feed c.args.bytes.now c.split-line-items.ensures.rest
+    c.split-line-items.ensures.done c.split-line-items.ensures.closure (λ x r q k. search (rules, tests))))
     c.loop-line.yielded _ c.loop-line.yielded_by _ _ c.in-Some.line c.in-Some.is c.next.ensures.steps in
     read_fault _ _ _ _ _ _ _ _ c.loop-line.invariant.2 next (sym c.in-Ok.ensures ∙ c.in-Err.is)
 
 pub loop-line-preserved : goal.loop-line-preserved
 loop-line-preserved c =
     let next = YieldsList-turn
-        (YieldsList-at c.into_iter-line-iterator.ensures.into_iter_gives
-        (YieldsList-from_slice_split _ is_line_feed c.args.bytes.now c.split-line-items.ensures.rest
-        c.split-line-items.ensures.done c.split-line-items.ensures.closure (λ x r q k. search (rules, tests))))
+    (YieldsList-at c.into_iter-line-iterator.ensures.into_iter_gives
+    (YieldsList-from_slice_split _ is_line_feed c.args.bytes.now c.split-line-items.ensures.rest
+    c.split-line-items.ensures.done c.split-line-items.ensures.closure (λ x r q k. search (rules, tests))))
     c.loop-line.yielded _ c.loop-line.yielded_by _ _ c.in-Some.line c.in-Some.is c.next.ensures.steps in
     let more = read_more _ _ _ _ _ _ _ _ c.loop-line.invariant.2 next (sym c.in-Ok.ensures ∙ c.in-Ok-meaning.is) in
     let long = length_push c.loop-line.yielded c.in-Some.line in
@@ -29,17 +29,17 @@ loop-line-preserved c =
 pub returns-then-kept-from : goal.returns-then-kept-from
 returns-then-kept-from c =
     let end = YieldsList-end
-        (YieldsList-at c.into_iter-line-iterator.ensures.into_iter_gives
-        (YieldsList-from_slice_split _ is_line_feed c.args.bytes.now c.split-line-items.ensures.rest
-        c.split-line-items.ensures.done c.split-line-items.ensures.closure (λ x r q k. search (rules, tests))))
+    (YieldsList-at c.into_iter-line-iterator.ensures.into_iter_gives
+    (YieldsList-from_slice_split _ is_line_feed c.args.bytes.now c.split-line-items.ensures.rest
+    c.split-line-items.ensures.done c.split-line-items.ensures.closure (λ x r q k. search (rules, tests))))
     c.loop-line.yielded _ c.loop-line.yielded_by _ _ c.in-None.is c.next.ensures.steps in
     read_too_many _ _ _ _ _ _ c.loop-line.invariant.2 end.1 (omega (arith, c.from.ensures, c.if-kept-from.true))
 
 pub returns : goal.returns
 returns c =
     let end = YieldsList-end
-        (YieldsList-at c.into_iter-line-iterator.ensures.into_iter_gives
-        (YieldsList-from_slice_split _ is_line_feed c.args.bytes.now c.split-line-items.ensures.rest
-        c.split-line-items.ensures.done c.split-line-items.ensures.closure (λ x r q k. search (rules, tests))))
+    (YieldsList-at c.into_iter-line-iterator.ensures.into_iter_gives
+    (YieldsList-from_slice_split _ is_line_feed c.args.bytes.now c.split-line-items.ensures.rest
+    c.split-line-items.ensures.done c.split-line-items.ensures.closure (λ x r q k. search (rules, tests))))
     c.loop-line.yielded _ c.loop-line.yielded_by _ _ c.in-None.is c.next.ensures.steps in
     read_all _ _ _ _ _ _ c.loop-line.invariant.2 end.1 (omega (arith, c.from.ensures, c.if-kept-from.false))

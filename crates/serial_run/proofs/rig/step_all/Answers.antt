@@ -13,8 +13,12 @@ loop-station-preserved c =
     let f = station_slot c.args.world.now c.args.schedule.now.grants.items in
     let Stays = λ (tile : TileState). IsUnderway c.args.world.now c.args.schedule.now tile in
     let P = λ (station : Station). Stays (f station).tile in
-    let same = read_before f c.args.stations.now c.loop-station.stations c.loop-station.station-index c.station-item.result (omega arith) c.loop-station.invariant.0 c.station-item.is in
+    let same = read_before f c.args.stations.now c.loop-station.stations c.loop-station.station-index
+    c.station-item.result (omega arith) c.loop-station.invariant.0 c.station-item.is in
     let here = subst Stays (ap (λ (station : Station). station.tile) c.step.ensures.slot) c.step.ensures.underway in (
-      rw (c.step.ensures.slot, ← c.station-item.is) (map_over_more f c.args.stations.now c.loop-station.stations c.loop-station.station-index c.station-item.result (omega arith) c.loop-station.invariant.0 c.station-item.is),
-      All-more P c.args.stations.now c.loop-station.station-index c.station-item.result (omega arith) c.loop-station.invariant.1 (subst P (sym c.station-item.is ∙ same) here),
+      rw (c.step.ensures.slot, ← c.station-item.is)
+          (map_over_more f c.args.stations.now c.loop-station.stations c.loop-station.station-index
+          c.station-item.result (omega arith) c.loop-station.invariant.0 c.station-item.is),
+      All-more P c.args.stations.now c.loop-station.station-index c.station-item.result (omega arith)
+          c.loop-station.invariant.1 (subst P (sym c.station-item.is ∙ same) here),
     )

@@ -17,4 +17,4 @@ pub returns-clause-round : goal.returns-clause-round
 returns-clause-round c = λ rounds at.
     let same = ap (λ (setup : Setup). length setup.scripts) c.loop-session.invariant.0 in
     round_over c.loop-session.manager.setup rounds c.loop-session.session c.loop-session.manager.history
-        (omega (arith, same)) (c.loop-session.invariant.1 rounds at)
+    (omega (arith, same)) (c.loop-session.invariant.1 rounds at)

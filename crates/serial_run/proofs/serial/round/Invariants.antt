@@ -6,5 +6,5 @@ abbrev pub invariant-loop-session : goal.invariant-loop-session
 invariant-loop-session l =
     (l.manager.setup ≡ l.fn.manager.setup)
     × ((rounds : ℕ) → IsAtTurn l.fn.manager.setup rounds 1 l.fn.manager.history
-        → IsAtTurn l.manager.setup rounds l.session l.manager.history)
+    → IsAtTurn l.manager.setup rounds l.session l.manager.history)
     × (l.busy ≡ false → l.manager.history ≡ l.fn.manager.history)

@@ -13,7 +13,7 @@ new-requires-3 c = rw c.as_slice.ensures (sound_world c.args.setup.now c.require
 pub finish-stations-requires : goal.finish-stations-requires
 finish-stations-requires c =
     let same : c.commit_all.new.manager.setup ≡ c.args.setup.now =
-        c.commit_all.ensures.setup ∙ ap (λ (state : ManagerState). state.setup) c.in_ok-manager.ensures.made in
+    c.commit_all.ensures.setup ∙ ap (λ (state : ManagerState). state.setup) c.in_ok-manager.ensures.made in
     can_finish c.args.setup.now c.commit_all.new.manager c.copy_since.new.into c.in_ok-rig.rig c.requires (record {
       same = same;
       rounds = c.commit_all.ensures.rounds;

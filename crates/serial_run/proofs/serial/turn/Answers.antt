@@ -15,8 +15,8 @@ returns-clause-turn c = λ rounds at.
     let legal = subst Legal c.commit.ensures.appended c.commit.ensures.legal in
     let apart = subst Apart c.commit.ensures.appended c.commit.ensures.apart in
     subst AtNext (sym c.commit.ensures.appended)
-        (turn_taken c.args.manager.now.setup rounds c.args.session c.args.manager.now.history c.commit.result
-        (record {
+    (turn_taken c.args.manager.now.setup rounds c.args.session c.args.manager.now.history c.commit.result
+    (record {
       session_is = c.requires;
       entry = c.commit.ensures.entry;
       used_up = c.commit.ensures.used_up;

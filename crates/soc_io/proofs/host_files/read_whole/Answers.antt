@@ -1,4 +1,4 @@
-use Rattle.std.proofs.Common.{rules, ◌≡◌, ◌≤◌, length, ap, arith}
+use Rattle.std.proofs.Common.{rules, ◌≤◌, length, ap, arith}
 use Rattle.soc_base.specs.declared.limits.TheConstants.{MOST_FILE_BYTES}
 use Rattle.soc_io.proofs.Fronts.{whole_front}
 use Rattle.soc_io.proofs.host_files.read_whole.Goals as goal

@@ -22,7 +22,7 @@ pub invariant_of-result : goal.invariant_of-result
 invariant_of-result c =
     let one : c.as_slice-2.result.now ≡ c.args.script ∷ [] = c.as_slice-2.ensures ∙ c.in_ok-scripts.ensures in
     let made : c.from_vec-loads.result ≡ loads_of c.args.catalog.items (c.args.script ∷ []) =
-        c.from_vec-loads.ensures ∙ rw (c.as_slice.ensures.value, one) at c.in_ok-loads.ensures in
+    c.from_vec-loads.ensures ∙ rw (c.as_slice.ensures.value, one) at c.in_ok-loads.ensures in
     record {
       loads_named = rw (c.from_vec-catalog.ensures, c.in_ok-scripts.ensures) made;
       loads_known = loads_known c.args.catalog.items c.args.script c.from_vec-catalog.result c.in_ok-scripts.scripts
@@ -32,4 +32,4 @@ invariant_of-result c =
 pub returns-clause-sound : goal.returns-clause-sound
 returns-clause-sound c =
     sound_setup _ c.args.script (rw c.from_vec-catalog.ensures c.requires.sound) c.in_ok-scripts.ensures
-        c.requires.few c.requires.cycles c.end_slot-budget.ensures.bounded
+    c.requires.few c.requires.cycles c.end_slot-budget.ensures.bounded

@@ -7,6 +7,6 @@ use Rattle.vep_manager.proofs.horizon.horizon.Goals as goal
 pub loop-session-preserved : goal.loop-session-preserved
 loop-session-preserved c =
     c.min-least.ensures ∙ ap (min c.loop-session.least) (c.promise.ensures
-        ∙ ap (promise_of c.args.setup.now c.loop-session.session) c.with_next-done.ensures)
+    ∙ ap (promise_of c.args.setup.now c.loop-session.session) c.with_next-done.ensures)
     ∙ horizon_more c.args.setup.now (counted c.args.next c.args.history.now) c.loop-session.session
-        c.loop-session.least (omega arith) c.loop-session.invariant
+    c.loop-session.least (omega arith) c.loop-session.invariant

@@ -8,7 +8,9 @@ pub loop-script-preserved : goal.loop-script-preserved
 loop-script-preserved c =
     let before = c.loop-script.invariant in
     let added = λ (commands : List Command). c.loop-script.loads.items
-        ++ loads_from c.args.catalog.now c.loop-script.session 1 (loaded_names commands) in
-    (script_loads c.args.catalog.now c.loop-script.session c.loop-script.script-index c.args.scripts.now
-        c.script-item.result c.loop-script.loads.items c.add_session.new.loads.items (omega arith) c.script-item.is
-        before.1 before.0 (c.in_ok-add_session.ensures ∙ ap added c.as_slice.ensures), omega arith)
+    ++ loads_from c.args.catalog.now c.loop-script.session 1 (loaded_names commands) in (
+      script_loads c.args.catalog.now c.loop-script.session c.loop-script.script-index c.args.scripts.now
+          c.script-item.result c.loop-script.loads.items c.add_session.new.loads.items (omega arith) c.script-item.is
+          before.1 before.0 (c.in_ok-add_session.ensures ∙ ap added c.as_slice.ensures),
+      omega arith,
+    )

@@ -10,11 +10,11 @@ returns-in-Some c =
     let catalog = c.args.catalog.now in
     let found = λ (o : Option ℕ). unwrap_or o (length catalog) in
     sym (ap found c.in-Some.is) ∙ ap found c.first_of.ensures
-        ∙ place_or (λ (named : Named). bytes_eq named.name c.args.name.now) catalog
+    ∙ place_or (λ (named : Named). bytes_eq named.name c.args.name.now) catalog
 
 pub returns-in-None : goal.returns-in-None
 returns-in-None c =
     let catalog = c.args.catalog.now in
     let found = λ (o : Option ℕ). unwrap_or o (length catalog) in
     sym (ap found c.in-None.is) ∙ ap found c.first_of.ensures
-        ∙ place_or (λ (named : Named). bytes_eq named.name c.args.name.now) catalog
+    ∙ place_or (λ (named : Named). bytes_eq named.name c.args.name.now) catalog

@@ -6,4 +6,5 @@ use Rattle.serial_run.proofs.rig.Rig.new.Given as goal
 
 abbrev pub invariant-loop-number : goal.invariant-loop-number
 invariant-loop-number l =
-    (tiles_of l.stations.items ≡ map (fresh_tile l.world l.loads) (range_with_len 0 l.number)) × (vec_len l.stations ≡ l.number) × (l.world.platform.tiles ≤ vec_capacity l.stations)
+    (tiles_of l.stations.items ≡ map (fresh_tile l.world l.loads) (range_with_len 0 l.number))
+    × (vec_len l.stations ≡ l.number) × (l.world.platform.tiles ≤ vec_capacity l.stations)

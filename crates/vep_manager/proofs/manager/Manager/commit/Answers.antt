@@ -17,7 +17,7 @@ use Rattle.vep_manager.proofs.manager.Manager.commit.Goals as goal
 pub keep-requires : goal.keep-requires
 keep-requires c =
     next_from c.args.self.now c.args.session c.in-Some.entry c.next-next.result (search rules) c.next-next.ensures.entry
-        c.in-Some.is
+    c.in-Some.is
 
 pub returns-in-Some-clause-used_up : goal.returns-in-Some-clause-used_up
 returns-in-Some-clause-used_up c =
@@ -36,7 +36,7 @@ returns-in-Some-clause-legal c =
     let state = c.args.self.now in
     let next = next_from state c.args.session c.in-Some.entry _ (search rules) c.next-next.ensures.entry c.in-Some.is in
     subst (λ (k : ManagerState). IsLegal k.setup k.history) (sym c.keep.ensures)
-        (legal_more state.setup state.history c.in-Some.entry c.next-next.ensures.legal next)
+    (legal_more state.setup state.history c.in-Some.entry c.next-next.ensures.legal next)
 
 pub returns-in-Some-clause-apart : goal.returns-in-Some-clause-apart
 returns-in-Some-clause-apart c =
@@ -51,7 +51,7 @@ returns-in-Some-clause-granted c =
     let next = next_from state c.args.session c.in-Some.entry _ (search rules) c.next-next.ensures.entry c.in-Some.is in
     let stands = stands_after state c.in-Some.entry c.next-next.ensures.sound c.next-next.ensures.legal next in
     subst (λ (k : ManagerState). AreGranted k.setup LAST_CYCLE k.history) (sym c.keep.ensures)
-        (granted (grown state c.in-Some.entry) LAST_CYCLE stands)
+    (granted (grown state c.in-Some.entry) LAST_CYCLE stands)
 
 pub returns-in_default-clause-legal : goal.returns-in_default-clause-legal
 returns-in_default-clause-legal c = c.next-next.ensures.legal
@@ -63,4 +63,4 @@ returns-in_default-clause-apart c =
 pub returns-in_default-clause-granted : goal.returns-in_default-clause-granted
 returns-in_default-clause-granted c =
     granted c.args.self.now LAST_CYCLE
-        (standing c.args.self.now LAST_CYCLE c.next-next.ensures.sound.cycles c.next-next.ensures.legal)
+    (standing c.args.self.now LAST_CYCLE c.next-next.ensures.sound.cycles c.next-next.ensures.legal)

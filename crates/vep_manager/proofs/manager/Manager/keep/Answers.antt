@@ -10,28 +10,28 @@ use Rattle.vep_manager.proofs.manager.Manager.keep.Goals as goal
 pub follow-requires : goal.follow-requires
 follow-requires c = λ opens.
     let next = subst (λ (k : ManagerState). next_entry k.setup k.history c.args.entry.session ≡ Some c.args.entry)
-        (sym c.self.view_is) c.requires in
+    (sym c.self.view_is) c.requires in
     let low = kept_room c.args.entry c.self.invariant.0 next opens in
     omega (arith, low, c.self.inside.grants.ok)
 
 pub push_reserved-requires : goal.push_reserved-requires
 push_reserved-requires c =
     let next = subst (λ (k : ManagerState). next_entry k.setup k.history c.args.entry.session ≡ Some c.args.entry)
-        (sym c.self.view_is) c.requires in
+    (sym c.self.view_is) c.requires in
     let low = kept_space c.args.entry c.self.invariant.0 next in
     omega (arith, low, c.self.inside.history.ok)
 
 pub horizon-self-inside-requires-clause-few : goal.horizon-self-inside-requires-clause-few
 horizon-self-inside-requires-clause-few c =
     let next = subst (λ (k : ManagerState). next_entry k.setup k.history c.args.entry.session ≡ Some c.args.entry)
-        (sym c.self.view_is) c.requires in
+    (sym c.self.view_is) c.requires in
     let few = kept_short c.args.entry c.self.invariant.0 next in
     omega (arith, few, ap length (c.as_slice.ensures.value ∙ c.push_reserved.ensures.items))
 
 pub invariant_of-self : goal.invariant_of-self
 invariant_of-self c =
     let next = subst (λ (k : ManagerState). next_entry k.setup k.history c.args.entry.session ≡ Some c.args.entry)
-        (sym c.self.view_is) c.requires in
+    (sym c.self.view_is) c.requires in
     let over = λ (history : List Entry). horizon_with c.self.inside.setup.now (counted None history) in
     let after : Known = record {
       grants = c.follow.new.grants.items;

@@ -12,11 +12,11 @@ returns-in-Ok c =
     let history = c.args.self.now.history in
     let here : find (λ l. same_label l.label c.args.label) setup.loads ≡ Some c.in-Some.load.now = search rules in
     let file : slice_get setup.world.catalog c.in-Some.load.now.bundle ≡ Some c.in-Some-get.named.now =
-        search rules in
+    search rules in
     let judged = judged_found setup c.args.label c.in-Some.load.now c.in-Some-get.named.now (Ok c.in-Ok.field-0) here
-        file c.in-Ok.is in
+    file c.in-Ok.is in
     let held = held_found setup.world c.in-Some.load.now.bundle c.in-Some-get.named.now c.in-Ok.field-0 file
-        c.in-Ok.is in
+    c.in-Ok.is in
     ap Some (c.granted_or_taken.ensures ∙ ap (fits_reply setup history c.args.label c.args.start) held)
     ∙ sym (ap (option_map (load_reply setup history c.args.label c.args.start)) judged)
 
@@ -26,7 +26,7 @@ returns-in-Err c =
     let history = c.args.self.now.history in
     let here : find (λ l. same_label l.label c.args.label) setup.loads ≡ Some c.in-Some.load.now = search rules in
     let file : slice_get setup.world.catalog c.in-Some.load.now.bundle ≡ Some c.in-Some-get.named.now =
-        search rules in
+    search rules in
     let judged = judged_found setup c.args.label c.in-Some.load.now c.in-Some-get.named.now (Err c.in-Err.rule) here
-        file c.in-Err.is in
+    file c.in-Err.is in
     sym (ap (option_map (load_reply setup history c.args.label c.args.start)) judged)

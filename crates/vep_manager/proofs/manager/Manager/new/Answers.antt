@@ -17,8 +17,10 @@ invariant_of-result c =
       grant_room = vec_capacity c.in_ok-grants.grants;
     }) in
     let entries : command_count setup ≤ vec_capacity c.in_ok-history.history =
-        omega (arith, c.in_ok-history.ensures, c.total.ensures) in
+    omega (arith, c.in_ok-history.ensures, c.total.ensures) in
     let loads : length setup.loads ≤ vec_capacity c.in_ok-grants.grants =
-        omega (arith, c.in_ok-grants.ensures, c.len.ensures) in
-    (subst P (sym none) (kept_none setup _ c.requires c.in_ok-grants.ensures.items c.horizon-horizon.ensures entries
-        loads), search rules)
+    omega (arith, c.in_ok-grants.ensures, c.len.ensures) in (
+      subst P (sym none) (kept_none setup _ c.requires c.in_ok-grants.ensures.items c.horizon-horizon.ensures entries
+          loads),
+      search rules,
+    )

@@ -10,6 +10,6 @@ returns-in-Load c =
     let setup = c.args.self.now.setup in
     let history = c.args.self.now.history in
     rw c.in-Load.is (c.load_reply.ensures
-        ∙ ap₂ (λ label start. option_map (load_reply setup history label start) (judged_of setup label))
-        c.next_label.ensures (c.slot_for.ensures
-        ∙ ap (λ (k : ManagerState). granted_slot k.setup c.in-Load.cycle) c.self.view_is))
+    ∙ ap₂ (λ label start. option_map (load_reply setup history label start) (judged_of setup label))
+    c.next_label.ensures (c.slot_for.ensures
+    ∙ ap (λ (k : ManagerState). granted_slot k.setup c.in-Load.cycle) c.self.view_is))
