@@ -3,7 +3,7 @@
 ghost use Rattle.std.specs.Prelude.{◌≡◌, ◌-◌, ◌<◌, ◌≤◌, ◌↔◌, [], length, slice_get};
 ghost use Rattle.std.specs.Prelude.{is_ok, is_some, IsErr, IfOk, Some, option_map};
 ghost use Rattle.std.specs.Result.{result_ok};
-ghost use Rattle.soc_base.specs.Port.{empty_port, free_port, put, take_word, inject, receive, deliver};
+ghost use Rattle.soc_base.specs.Port.{empty_port, free_port, put, take_word, inject, receive};
 
 use circular_buffer::HeapCircularBuffer;
 use soc_base::{Flit, NoMemory};
@@ -43,7 +43,7 @@ impl Model for Port {
 }
 
 impl Port {
-    ghost use Rattle.ni_port.specs.SizedPort.{in_state, after_put, after_take, IsWithin};
+    ghost use Rattle.ni_port.specs.SizedPort.{in_state, after_put, after_take, after_inject, after_deliver, IsWithin};
 
     /// Makes a port with queues of `queue` words (1 to 63). It is empty and has no credit.
     pub fn new(alloc: Global, queue: u8) -> Result<Port, NoMemory>
@@ -105,7 +105,7 @@ impl Port {
     /// there is one and credit to spend, and all credits that it owes. Takes no memory.
     pub fn inject(&mut self) -> Flit
         ensures flit { result ≡ (inject self.old.port).0 }
-        ensures port { self.new ≡ in_state self.old (inject self.old.port).1 }
+        ensures port { self.new ≡ after_inject self.old }
     {
         let word = if self.credit == 0 {
             None
@@ -124,7 +124,7 @@ impl Port {
     /// there and those that credits are owed for take all places; its credits are added, up to the
     /// number of words that a queue holds. Takes no memory.
     pub fn deliver(&mut self, flit: Flit)
-        ensures { self.new ≡ in_state self.old (deliver self.old.queue flit self.old.port) }
+        ensures { self.new ≡ after_deliver flit self.old }
     {
         if let Some(word) = flit.word {
             self.receive(word);

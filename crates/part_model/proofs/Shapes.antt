@@ -1,5 +1,5 @@
 -- A part keeps 32 registers, of which x0 is zero.
-use Rattle.std.proofs.Common.{◌≡◌, ℕ, nat_lt, Bool, true, false, cond, Result, Ok, Err}
+use Rattle.std.proofs.Common.{ℕ, Bool, true, false, cond, Result, Ok, Err}
 use Rattle.soc_base.specs.declared.cause.Cause.{Cause}
 use Rattle.platform_model.specs.declared.costs.Costs.{Costs}
 use Rattle.rv_core.specs.declared.instr.Instr.{Instr}

@@ -1,6 +1,8 @@
 -- A part of an application, cycle by cycle.
-use Rattle.std.specs.Prelude.{ℕ, List, Option, Some, None}
+use Rattle.std.specs.Prelude.{ℕ, List, length, Option, Some, None}
+use Rattle.std.specs.List.{range_with_len}
 use Rattle.platform_model.specs.declared.costs.Costs.{Costs}
+use Rattle.ni_port.specs.SizedPort.{SizedPort}
 use Rattle.rv_core.specs.declared.execution.Outcome.{Outcome}
 use Rattle.rv_core.specs.declared.execution.Outcome.TheVariants.{Next, Stall, Halt, Fault}
 use Rattle.rv_core.specs.Registers.{Registers}
@@ -18,16 +20,25 @@ abbrev pub part_bus : BusMeaning BusState
 part_bus = record { fetch = fetch_answer; load = load_answer; store = store_answer }
 
 -- what a part is between two cycles: its registers, the cycles left of the instruction that it executes
--- (0 where it begins none), the bytes of its region, and its log, which holds also how it stands
+-- (0 where it begins none), the bytes of its region, its ports in the order of its list, and its log, which
+-- holds also how it stands
 pub record PartState : Type 0 where
   pub regs : Registers
   pub left : ℕ
   pub bytes : List ℕ
+  pub ports : List SizedPort
   pub log : Log
 
--- the part's bus in a cycle
+-- the part's bus in a cycle: it has the part's ports and no other
 abbrev pub bus_of : Place → ℕ → PartState → BusState
-bus_of place cycle p = record { bytes = p.bytes; log = p.log; place = place; cycle = cycle }
+bus_of place cycle p = record {
+  bytes = p.bytes;
+  ports = p.ports;
+  numbers = range_with_len 0 (length p.ports);
+  log = p.log;
+  place = place;
+  cycle = cycle;
+}
 
 -- the log after a cycle in which the instruction at pc came to an outcome: a row of kind `step` for each
 -- instruction that was completed, after any other row of the cycle, and the end of a part that ended
@@ -44,6 +55,7 @@ settled place cycle pc end = record {
   regs = end.regs;
   left = end.left;
   bytes = end.bus.bytes;
+  ports = end.bus.ports;
   log = log_after place cycle pc end.outcome end.bus.log;
 }
 

@@ -14,6 +14,6 @@ mod record;
 mod running;
 
 pub use cycle_table::DEVICE_BASE;
-pub use device::{CYCLE, CYCLEH, TRACE};
+pub use device::{CYCLE, CYCLEH, FILL, PORT_BYTES, RECV, ROOM, SEND, TRACE};
 pub use record::{Place, record_outcome, trace};
 pub use running::{cost_at, effect, instr_at, left_after};
