@@ -31,7 +31,7 @@ pub record IsSettled (world : World) (loads : List LoadName) (grants : List Gran
 
 -- what a place is without a part
 abbrev no_part : PartState
-no_part = record { regs = fresh_registers 0; left = 0; bytes = []; log = new_log 0 }
+no_part = record { regs = fresh_registers 0; left = 0; bytes = []; ports = []; log = new_log 0 }
 
 -- the part of a place by itself, at the beginning of a slot
 abbrev pub view_by : World → Option Grant → ℕ → Option Part → PartState
@@ -95,7 +95,7 @@ granted_by world grants view other tile same held =
         here = λ place part start is begins.
             let one = h.here place part start is begins in
             let seen = sym (same place part is) in
-            record { words = one.words ∙ ap (λ (s : PartState). words_of s) seen; bytes = one.bytes ∙ ap (λ (s : PartState). s.bytes) seen; start_is = one.start_is };
+            record { words = one.words ∙ ap (λ (s : PartState). words_of s) seen; bytes = one.bytes ∙ ap (λ (s : PartState). s.bytes) seen; ports = ap (λ (s : PartState). s.ports) (same place part is) ∙ one.ports; start_is = one.start_is };
         logs = λ place part is.
             let one = h.logs place part is in
             record { inside = one.inside; is = one.is ∙ ap (λ (s : PartState). s.log) (sym (same place part is)) };

@@ -15,7 +15,7 @@ use Rattle.tile_core.specs.Tile.{TileState, load_place, log_of, state_at, state_
 use Rattle.tile_core.specs.Lockstep.{lockstep}
 use Rattle.event_core.specs.Stands.{alone_part, Stands, GrantsStand, stop_slot, LogsAreAlone}
 use Rattle.event_core.proofs.Runs.{opening_state, part_run, first_cycle, stop_cycle, run_by, run_early, run_before, stop_lasting}
-use Rattle.event_core.proofs.Alone.{alone_is}
+use Rattle.event_core.proofs.Alone.{AreUnjoined, unjoined_bundles, alone_is}
 use Rattle.event_core.proofs.Follows.{IsSettled, FollowsOn, lockstep_follows}
 use Rattle.event_core.proofs.Found.{IsFound, no_site, tile_found}
 
@@ -52,16 +52,16 @@ over_false grant slot end is past =
     and_right (nat_lt grant.start slot) (lasts_to slot grant.end) (ap (lasts_to slot) is ∙ lt-leb slot end past)
 
 -- the application alone, where it has a part on the tile
-alone_some : (world : World) (grant : Grant) (slot number : ℕ) (part : Part) → part_on world number grant.bundle ≡ Some part → alone_part world grant slot number ≡ Some (part_run world part (first_cycle world grant) (slot * world.platform.slot_cycles))
-alone_some world grant slot number part on =
-    alone_is world grant slot number ∙ ap (option_map (λ (p : Part). part_run world p (first_cycle world grant) (slot * world.platform.slot_cycles))) on
+alone_some : (world : World) (grant : Grant) (slot number : ℕ) (part : Part) → AreUnjoined world → part_on world number grant.bundle ≡ Some part → alone_part world grant slot number ≡ Some (part_run world part (first_cycle world grant) (slot * world.platform.slot_cycles))
+alone_some world grant slot number part unjoined on =
+    alone_is world grant slot number unjoined ∙ ap (option_map (λ (p : Part). part_run world p (first_cycle world grant) (slot * world.platform.slot_cycles))) on
 
-alone_none : (world : World) (grant : Grant) (slot number : ℕ) → part_on world number grant.bundle ≡ None → alone_part world grant slot number ≡ None
-alone_none world grant slot number none =
-    alone_is world grant slot number ∙ ap (option_map (λ (p : Part). part_run world p (first_cycle world grant) (slot * world.platform.slot_cycles))) none
+alone_none : (world : World) (grant : Grant) (slot number : ℕ) → AreUnjoined world → part_on world number grant.bundle ≡ None → alone_part world grant slot number ≡ None
+alone_none world grant slot number unjoined none =
+    alone_is world grant slot number unjoined ∙ ap (option_map (λ (p : Part). part_run world p (first_cycle world grant) (slot * world.platform.slot_cycles))) none
 
-part_stands : (world : World) (grant : Grant) (part : Part) (tile : TileState) → part_on world tile.number grant.bundle ≡ Some part → IsFound world grant tile.at part tile → Stands world grant tile
-part_stands world grant part tile on found = record {
+part_stands : (world : World) (grant : Grant) (part : Part) (tile : TileState) → AreUnjoined world → part_on world tile.number grant.bundle ≡ Some part → IsFound world grant tile.at part tile → Stands world grant tile
+part_stands world grant part tile unjoined on found = record {
   before = λ early. record {
     not_installed = found.absent (not_begun grant tile.at early);
     its_log = found.log ∙ ap (λ (s : PartState). Some s.log) (not_run world grant part tile.at early) ∙ sym (ap (option_map (λ (p : Part). new_log p.trace)) on);
@@ -70,27 +70,27 @@ part_stands world grant part tile on found = record {
       let now : stop_cycle world grant (tile.at * world.platform.slot_cycles) ≡ tile.at * world.platform.slot_cycles = stop_lasting world.platform.slot_cycles tile.at (tile.at * world.platform.slot_cycles) grant.end lasts (omega arith) in
       found.present (and_from (nat_lt grant.start tile.at) (lasts_to tile.at grant.end) (lt-ltb grant.start tile.at begun) lasts)
       ∙ ap (λ c. Some (part_run world part (first_cycle world grant) c)) now
-      ∙ sym (alone_some world grant tile.at tile.number part on);
+      ∙ sym (alone_some world grant tile.at tile.number part unjoined on);
   after = λ end is late past. record {
     not_installed = found.absent (over_false grant tile.at end is past);
-    its_log = found.log ∙ ap (λ (s : PartState). Some s.log) (run_over world grant part tile.at end is past) ∙ sym (ap (option_map (λ (s : PartState). s.log)) (alone_some world grant end tile.number part on));
+    its_log = found.log ∙ ap (λ (s : PartState). Some s.log) (run_over world grant part tile.at end is past) ∙ sym (ap (option_map (λ (s : PartState). s.log)) (alone_some world grant end tile.number part unjoined on));
   };
 }
 
 -- a grant with no part on the tile
-none_stands : (world : World) (grant : Grant) (tile : TileState) → part_on world tile.number grant.bundle ≡ None → load_place tile grant.label ≡ None → Stands world grant tile
-none_stands world grant tile none nothing =
+none_stands : (world : World) (grant : Grant) (tile : TileState) → AreUnjoined world → part_on world tile.number grant.bundle ≡ None → load_place tile grant.label ≡ None → Stands world grant tile
+none_stands world grant tile unjoined none nothing =
     let no_state : state_of world tile grant.label ≡ None = ap (option_and_then (state_at world tile)) nothing in
     let no_log : log_of tile grant.label ≡ None = ap (option_and_then (slice_get tile.logs)) nothing in
     record {
       before = λ early. record { not_installed = no_state; its_log = no_log ∙ sym (ap (option_map (λ (p : Part). new_log p.trace)) none) };
-      during = λ begun lasts. no_state ∙ sym (alone_none world grant tile.at tile.number none);
-      after = λ end is late past. record { not_installed = no_state; its_log = no_log ∙ sym (ap (option_map (λ (s : PartState). s.log)) (alone_none world grant end tile.number none)) };
+      during = λ begun lasts. no_state ∙ sym (alone_none world grant tile.at tile.number unjoined none);
+      after = λ end is late past. record { not_installed = no_state; its_log = no_log ∙ sym (ap (option_map (λ (s : PartState). s.log)) (alone_none world grant end tile.number unjoined none)) };
     }
 
-tile_stands : (world : World) (loads : List LoadName) (grants : List Grant) (at : ℕ) (grant : Grant) (tile : TileState) (part : Option Part) → IsSettled world loads grants → slice_get grants at ≡ Some grant → FollowsOn world loads grants tile.at tile → part_on world tile.number grant.bundle ≡ part → Stands world grant tile
-tile_stands world loads grants at grant tile None so there follows is = none_stands world grant tile is (no_site world loads grants at tile.at grant tile so there follows is)
-tile_stands world loads grants at grant tile (Some part) so there follows is = part_stands world grant part tile is (tile_found world loads grants at tile.at grant part tile so there follows is)
+tile_stands : (world : World) (loads : List LoadName) (grants : List Grant) (at : ℕ) (grant : Grant) (tile : TileState) (part : Option Part) → AreUnjoined world → IsSettled world loads grants → slice_get grants at ≡ Some grant → FollowsOn world loads grants tile.at tile → part_on world tile.number grant.bundle ≡ part → Stands world grant tile
+tile_stands world loads grants at grant tile None unjoined so there follows is = none_stands world grant tile unjoined is (no_site world loads grants at tile.at grant tile so there follows is)
+tile_stands world loads grants at grant tile (Some part) unjoined so there follows is = part_stands world grant part tile unjoined is (tile_found world loads grants at tile.at grant part tile so there follows is)
 
 -- a stop before the start is none
 late_stop : (world : World) (grant : Grant) (part : Part) (stop : ℕ) → part_run world part (first_cycle world grant) (max grant.start stop * world.platform.slot_cycles) ≡ part_run world part (first_cycle world grant) (stop * world.platform.slot_cycles)
@@ -133,20 +133,20 @@ run_stopped world grant part budget =
 abbrev LogIsAlone : World → Grant → ℕ → TileState → Type 0
 LogIsAlone world grant budget tile = log_of tile grant.label ≡ option_map (λ state. state.log) (alone_part world grant (stop_slot budget grant) tile.number)
 
-part_log : (world : World) (grant : Grant) (part : Part) (tile : TileState) → part_on world tile.number grant.bundle ≡ Some part → IsFound world grant tile.at part tile → LogIsAlone world grant tile.at tile
-part_log world grant part tile on found =
+part_log : (world : World) (grant : Grant) (part : Part) (tile : TileState) → AreUnjoined world → part_on world tile.number grant.bundle ≡ Some part → IsFound world grant tile.at part tile → LogIsAlone world grant tile.at tile
+part_log world grant part tile unjoined on found =
     found.log
     ∙ ap (λ (s : PartState). Some s.log) (run_stopped world grant part tile.at)
-    ∙ sym (ap (option_map (λ (s : PartState). s.log)) (alone_some world grant (stop_slot tile.at grant) tile.number part on))
+    ∙ sym (ap (option_map (λ (s : PartState). s.log)) (alone_some world grant (stop_slot tile.at grant) tile.number part unjoined on))
 
-none_log : (world : World) (grant : Grant) (tile : TileState) → part_on world tile.number grant.bundle ≡ None → load_place tile grant.label ≡ None → LogIsAlone world grant tile.at tile
-none_log world grant tile none nothing =
+none_log : (world : World) (grant : Grant) (tile : TileState) → AreUnjoined world → part_on world tile.number grant.bundle ≡ None → load_place tile grant.label ≡ None → LogIsAlone world grant tile.at tile
+none_log world grant tile unjoined none nothing =
     ap (option_and_then (slice_get tile.logs)) nothing
-    ∙ sym (ap (option_map (λ (s : PartState). s.log)) (alone_none world grant (stop_slot tile.at grant) tile.number none))
+    ∙ sym (ap (option_map (λ (s : PartState). s.log)) (alone_none world grant (stop_slot tile.at grant) tile.number unjoined none))
 
-tile_log : (world : World) (loads : List LoadName) (grants : List Grant) (at : ℕ) (grant : Grant) (tile : TileState) (part : Option Part) → IsSettled world loads grants → slice_get grants at ≡ Some grant → FollowsOn world loads grants tile.at tile → part_on world tile.number grant.bundle ≡ part → LogIsAlone world grant tile.at tile
-tile_log world loads grants at grant tile None so there follows is = none_log world grant tile is (no_site world loads grants at tile.at grant tile so there follows is)
-tile_log world loads grants at grant tile (Some part) so there follows is = part_log world grant part tile is (tile_found world loads grants at tile.at grant part tile so there follows is)
+tile_log : (world : World) (loads : List LoadName) (grants : List Grant) (at : ℕ) (grant : Grant) (tile : TileState) (part : Option Part) → AreUnjoined world → IsSettled world loads grants → slice_get grants at ≡ Some grant → FollowsOn world loads grants tile.at tile → part_on world tile.number grant.bundle ≡ part → LogIsAlone world grant tile.at tile
+tile_log world loads grants at grant tile None unjoined so there follows is = none_log world grant tile unjoined is (no_site world loads grants at tile.at grant tile so there follows is)
+tile_log world loads grants at grant tile (Some part) unjoined so there follows is = part_log world grant part tile unjoined is (tile_found world loads grants at tile.at grant part tile so there follows is)
 
 -- what is true of each grant on a tile that follows, is true in lockstep
 in_lockstep : (P : ℕ → Grant → TileState → Type 0) (world : World) (loads : List LoadName) (grants : List Grant) (slots : ℕ) → IsSoundWorld world loads → IsApart world grants → AreOfLoads loads grants → ((at : ℕ) (grant : Grant) (tile : TileState) → IsSettled world loads grants → slice_get grants at ≡ Some grant → FollowsOn world loads grants tile.at tile → P tile.at grant tile) → All (λ tile. All (λ grant. P slots grant tile) grants) (lockstep world loads grants slots).tiles
@@ -160,9 +160,9 @@ in_lockstep P world loads grants slots sound apart of each = λ k last low at fi
     subst (λ u. P u grant tile) follows.at (each at grant tile so (slice_get-get_or grants at first inside) here)
 
 pub grants_stand : GrantsStand
-grants_stand world loads grants slot sound apart of =
-    in_lockstep (λ slots (grant : Grant) tile. Stands world grant tile) world loads grants slot sound apart of (λ at grant tile so there follows. tile_stands world loads grants at grant tile (part_on world tile.number grant.bundle) so there follows refl)
+grants_stand world loads grants slot sound apart of one =
+    in_lockstep (λ slots (grant : Grant) tile. Stands world grant tile) world loads grants slot sound apart of (λ at grant tile so there follows. tile_stands world loads grants at grant tile (part_on world tile.number grant.bundle) (unjoined_bundles world sound.catalog one) so there follows refl)
 
 pub logs_are_alone : LogsAreAlone
-logs_are_alone world loads grants budget sound apart of =
-    in_lockstep (λ slots (grant : Grant) tile. LogIsAlone world grant slots tile) world loads grants budget sound apart of (λ at grant tile so there follows. tile_log world loads grants at grant tile (part_on world tile.number grant.bundle) so there follows refl)
+logs_are_alone world loads grants budget sound apart of one =
+    in_lockstep (λ slots (grant : Grant) tile. LogIsAlone world grant slots tile) world loads grants budget sound apart of (λ at grant tile so there follows. tile_log world loads grants at grant tile (part_on world tile.number grant.bundle) (unjoined_bundles world sound.catalog one) so there follows refl)

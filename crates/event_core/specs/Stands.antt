@@ -36,10 +36,12 @@ pub record Stands (world : World) (grant : Grant) (tile : TileState) : Type 0 wh
   pub during : grant.start < tile.at → IsTrue (lasts_to tile.at grant.end) → state_of world tile grant.label ≡ alone_part world grant tile.at tile.number
   pub after : (end : ℕ) → grant.end ≡ Some end → grant.start < end → end < tile.at → IsAbsent world grant tile (option_map (λ state. state.log) (alone_part world grant end tile.number))
 
--- Every grant stands on every tile, in every slot in which all tiles are in step.
+-- Every grant stands on every tile, in every slot in which all tiles are in step. The platform has one tile:
+-- between tiles there are no links yet.
 abbrev pub GrantsStand : Type 0
 GrantsStand =
     (world : World) (loads : List LoadName) (grants : List Grant) (slot : ℕ) → IsSoundWorld world loads → IsApart world grants → AreOfLoads loads grants
+    → world.platform.tiles ≡ 1
     → All (λ tile. All (λ grant. Stands world grant tile) grants) (lockstep world loads grants slot).tiles
 
 -- the slot up to which a grant's application is followed in a run: its end or the run's, and no slot
@@ -52,4 +54,5 @@ stop_slot budget grant = max grant.start (option_map_or (λ end. min end budget)
 abbrev pub LogsAreAlone : Type 0
 LogsAreAlone =
     (world : World) (loads : List LoadName) (grants : List Grant) (budget : ℕ) → IsSoundWorld world loads → IsApart world grants → AreOfLoads loads grants
+    → world.platform.tiles ≡ 1
     → All (λ tile. All (λ grant. log_of tile grant.label ≡ option_map (λ state. state.log) (alone_part world grant (stop_slot budget grant) tile.number)) grants) (lockstep world loads grants budget).tiles

@@ -18,7 +18,8 @@ use Rattle.bundle_model.specs.declared.world.Grant.{Grant}
 use Rattle.bundle_model.specs.Grants.{bundle_at, kept_bundle}
 use Rattle.bundle_model.specs.WellFormed.{IsWellFormed, IsWellFormedPart}
 use Rattle.bundle_model.specs.World.{IsSoundCatalog}
-use Rattle.alone_model.specs.App.{AppPart, AppState, alone_at}
+use Rattle.alone_model.specs.Network.{AppPart}
+use Rattle.alone_model.specs.App.{AppState, alone_at}
 use Rattle.alone_model.specs.Trace.{part_trace}
 use Rattle.alone_model.proofs.Laws.{alone_parts, alone_fits}
 use Rattle.tile_core.specs.declared.station.Station.{Station}
@@ -273,8 +274,8 @@ holds_for setup end tiles grant bundle sound logs known =
     }
 
 pub holds_alone : (setup : Setup) (end : RunEnd) → IsSound setup → IsLegal setup end.history → EndsInStep setup end
-    → All (HoldsAlone setup end.stations) (grants_of setup end.history)
-holds_alone setup end sound legal in_step =
+    → setup.world.platform.tiles ≡ 1 → All (HoldsAlone setup end.stations) (grants_of setup end.history)
+holds_alone setup end sound legal in_step one =
     let grants = grants_of setup end.history in
     let apart = legal_apart setup sound end.history legal in
     let of_loads = grants_of_loads setup sound end.history legal in
@@ -285,5 +286,5 @@ holds_alone setup end sound legal in_step =
       in_step = in_step;
       numbered = tiles_numbered setup.world setup.loads grants setup.budget (sound_world setup sound) apart of_loads;
       alone = λ m e within. logs_are_alone setup.world setup.loads grants setup.budget (sound_world setup sound) apart
-          of_loads m e within k d inside;
+          of_loads one m e within k d inside;
     }) known

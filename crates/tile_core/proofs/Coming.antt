@@ -39,6 +39,7 @@ holds_removed times parts granted later starts view c t i part start h part_is s
           record {
             words = cleared_others k p (offset_at times c) (number_of q) differs ∙ there.words;
             bytes = there.bytes;
+            ports = there.ports;
             start_is = there.start_is;
           };
       logs = λ place q is. let at = h.logs place q is in record { inside = at.inside; is = at.is };
@@ -73,6 +74,7 @@ holds_installed times parts granted later starts then view after_view c t i part
             let own : IsHere times then c (installed t i part) part c (after_view i) = record {
               words = prepared_own k part.slots part.entry (offset_at times c) free.some free.fits below free.free h.whole.kernel ∙ ap words_of (sym opens);
               bytes = region-with_region t.memory part.region bytes inside fits ∙ ap (λ (x : PartState). x.bytes) (sym opens);
+              ports = ap (λ (x : PartState). x.ports) opens;
               start_is = start_now;
             } in
             let P : ℕ → Type 0 = λ n. parts n ≡ Some q → later n ≡ Some s → IsHere times then c (installed t i part) q s (after_view n) in
@@ -89,6 +91,7 @@ holds_installed times parts granted later starts then view after_view c t i part
             record {
               words = prepared_others k part.slots part.entry (offset_at times c) n differs ∙ there.words ∙ ap words_of (sym (views_same place apart));
               bytes = region_stays t.memory part.region q.region bytes inside fits (room.parted place q s is begun) ∙ there.bytes ∙ ap (λ (x : PartState). x.bytes) (sym (views_same place apart));
+              ports = ap (λ (x : PartState). x.ports) (views_same place apart) ∙ there.ports;
               start_is = start_same n differs ∙ there.start_is;
             }
       ];
@@ -116,6 +119,7 @@ holds_by times parts granted later starts view other c t begun same h = record {
       record {
         words = one.words ∙ ap words_of (sym (same place part is));
         bytes = one.bytes ∙ ap (λ (s : PartState). s.bytes) (sym (same place part is));
+        ports = ap (λ (s : PartState). s.ports) (same place part is) ∙ one.ports;
         start_is = one.start_is;
       };
   logs = λ place part is.

@@ -13,6 +13,7 @@ use Rattle.bundle_model.specs.declared.world.Grant.{Grant}
 use Rattle.bundle_model.specs.World.{same_label, part_on}
 use Rattle.bundle_model.proofs.Laws.{at_place, contained_place, filtered_at, same_so}
 use Rattle.trace_log.specs.Log.{Log, new_log}
+use Rattle.ni_port.specs.SizedPort.{SizedPort}
 use Rattle.part_model.specs.Part.{PartState}
 use Rattle.comik.specs.declared.context.Context.{Context}
 use Rattle.comik.specs.Switching.{context_of}
@@ -69,8 +70,8 @@ log_found world grants view t place label part h at is =
     ∙ slice_get-get_or t.logs place (new_log 0) logged.inside
     ∙ ap (λ (l : Log). Some l) logged.is
 
-same_state : (a b : Context) (bytes bytes' : List ℕ) (log log' : Log) → a ≡ b → bytes ≡ bytes' → log ≡ log' → (let s : PartState = record { regs = a.regs; left = a.left; bytes = bytes; log = log } in s) ≡ (let s : PartState = record { regs = b.regs; left = b.left; bytes = bytes'; log = log' } in s)
-same_state a b bytes bytes' log log' p q r = cc
+same_state : (a b : Context) (bytes bytes' : List ℕ) (ports : List SizedPort) (log log' : Log) → a ≡ b → bytes ≡ bytes' → ports ≡ [] → log ≡ log' → (let s : PartState = record { regs = a.regs; left = a.left; bytes = bytes; ports = []; log = log } in s) ≡ (let s : PartState = record { regs = b.regs; left = b.left; bytes = bytes'; ports = ports; log = log' } in s)
+same_state a b bytes bytes' ports log log' p q n r = cc
 
 -- its state, where its grant stands
 pub state_found : (world : World) (grants : List Grant) (view : ℕ → PartState) (t : TileState) (place start : ℕ) (label : Label) (part : Part) → HoldsGranted world grants view t → load_place t label ≡ Some place → load_part world t place ≡ Some part → granted_from world grants t.at t place ≡ Some start → state_of world t label ≡ Some (view place)
@@ -79,7 +80,7 @@ state_found world grants view t place start label part h at is begins =
     let here = h.holds.here place part start is begins in
     let logged = h.holds.logs place part is in
     let installed : is_installed t place part ≡ true = ap (λ (o : Option ℕ). option_map_or (λ other. other == place) o false) placed.known ∙ eq-eqb place place refl in
-    let state : state_with t place part (words_at world t part) ≡ view place = same_state (words_at world t part) (words_of (view place)) _ (view place).bytes _ (view place).log here.words here.bytes logged.is in
+    let state : state_with t place part (words_at world t part) ≡ view place = same_state (words_at world t part) (words_of (view place)) _ (view place).bytes (view place).ports _ (view place).log here.words here.bytes here.ports logged.is in
     ap (option_and_then (state_at world t)) at
     ∙ ap (state_if world t place) is
     ∙ ap (λ b. cond b (Some (state_with t place part (words_at world t part))) None) installed

@@ -1,5 +1,5 @@
 -- A cycle of the tile: it holds the parts, each after its own cycle.
-use Rattle.std.proofs.Common.{◌≡◌, ◌≢◌, ℕ, ◌+◌, ◌*◌, ◌<◌, ◌≤◌, Bool, true, false, cond, ◌&&◌, ◌⊎◌, nat_lt, nat_le, List, get_or, slice_set, length, Option, Some, None, IfSome, refl, sym, subst, ap, ◌∙◌, inl, inr, arith}
+use Rattle.std.proofs.Common.{◌≡◌, ◌≢◌, ℕ, ◌+◌, ◌*◌, ◌<◌, ◌≤◌, Bool, true, false, cond, ◌&&◌, ◌⊎◌, nat_lt, nat_le, List, [], get_or, slice_set, length, Option, Some, None, IfSome, refl, sym, subst, ap, ◌∙◌, inl, inr, arith}
 use Rattle.std.specs.List.{slice_get}
 use Rattle.std.proofs.lemmas.Bool.{cases_eq, cases_lt, eq-eqb, ne_eqb, lt-ltb, le-ltb, lt-leb}
 use Rattle.std.proofs.lemmas.List.{get_or-set_same, get_or-set_other, length-set}
@@ -14,6 +14,7 @@ use Rattle.soc_base.proofs.Laws.{among_slots}
 use Rattle.tile_memory.specs.Bytes.{with_region}
 use Rattle.tile_memory.proofs.Laws.{region-with_region, length-with_region, length-region_bytes}
 use Rattle.trace_log.specs.Log.{Log, new_log}
+use Rattle.ni_port.specs.SizedPort.{SizedPort}
 use Rattle.part_model.specs.Part.{PartState, part_cycle}
 use Rattle.comik.specs.declared.context.Context.{Context}
 use Rattle.comik.specs.Context.{fresh_context}
@@ -23,6 +24,7 @@ use Rattle.comik.specs.Table.{kernel_cycle}
 use Rattle.comik.specs.Switching.{IsSaved, InStep, Keeps, context_of, context_in}
 use Rattle.comik.specs.Turn.{InTurn, TurnOf}
 use Rattle.comik.proofs.Laws.{next_cycle, row_parts, held_is, of_held, whole_words, cycle_keeps, row_whole, row_still, whole_file, cycle_own, cycle_others, turn_cycle, held_runs}
+use Rattle.tile_core.proofs.Portless.{portless_cycle}
 use Rattle.tile_core.specs.Tile.{TileState, place_at, number_of, log_at}
 use Rattle.tile_core.specs.Cycle.{core_place, words_of, held_state, with_state, run_part, run_place, run_held, tile_cycle}
 use Rattle.tile_core.specs.Fit.{IsNumberOf, AreInstalled}
@@ -80,6 +82,7 @@ unmoved times parts granted starts view costs c t frame h same =
           record {
             words = keeps.contexts (number_of part) ∙ one.words ∙ ap words_of (sym (same place));
             bytes = one.bytes ∙ ap (λ (s : PartState). s.bytes) (sym (same place));
+            ports = ap (λ (s : PartState). s.ports) (same place) ∙ one.ports;
             start_is = one.start_is;
           };
       logs = λ place part is.
@@ -112,8 +115,8 @@ step_far : (held : Option ℕ) (file : Context) (frames : List Context) (later :
 step_far None file frames later far = tt
 step_far (Some part) file frames later far = record { saved = λ some early. elim far [ inl none ↦ absurd (omega arith) | inr high ↦ absurd (omega arith) ] }
 
-same_state : (a b : Context) (bytes bytes' : List ℕ) (log log' : Log) → a ≡ b → bytes ≡ bytes' → log ≡ log' → (let s : PartState = record { regs = a.regs; left = a.left; bytes = bytes; log = log } in s) ≡ (let s : PartState = record { regs = b.regs; left = b.left; bytes = bytes'; log = log' } in s)
-same_state a b bytes bytes' log log' p q r = cc
+same_state : (a b : Context) (bytes bytes' : List ℕ) (ports : List SizedPort) (log log' : Log) → a ≡ b → bytes ≡ bytes' → ports ≡ [] → log ≡ log' → (let s : PartState = record { regs = a.regs; left = a.left; bytes = bytes; ports = []; log = log } in s) ≡ (let s : PartState = record { regs = b.regs; left = b.left; bytes = bytes'; ports = ports; log = log' } in s)
+same_state a b bytes bytes' ports log log' p q n r = cc
 
 -- two regions share no byte
 abbrev pub ArePartedRegions : Region → Region → Type 0
@@ -142,7 +145,7 @@ moved times parts granted starts view costs c t p frame parted h late held l =
     let P : Option ℕ → Type 0 = λ o. context_in o k.file k.frames (offset_at times c) p ≡ k.file in
     let now : context_of k (offset_at times c) p ≡ k.file = subst P (sym held) (of_held p k.file k.frames (offset_at times c) ∙ held_is (offset_at times c) k.file _ (inr (omega arith))) in
     sym now ∙ ap (context_of k (offset_at times c)) (sym l.is.number_is) ∙ one.words in
-    let same : state ≡ view i = same_state k.file (words_of (view i)) _ (view i).bytes _ (view i).log words one.bytes logged.is in
+    let same : state ≡ view i = same_state k.file (words_of (view i)) _ (view i).bytes (view i).ports _ (view i).log words one.bytes one.ports logged.is in
     let run : runs times (slots_of part.slots) start c ≡ true =
     sym (runs_is times parts granted starts view c t i part start frame h late l.is.part_is l.is.start_is)
     ∙ ap (has (number_of part)) held ∙ eq-eqb p (number_of part) (sym l.is.number_is) in
@@ -160,6 +163,7 @@ moved times parts granted starts view costs c t p frame parted h late held l =
     let own : IsHere times starts (c + 1) after part start (views i) = record {
       words = ap (context_of after.kernel (offset_at times (c + 1))) l.is.number_is ∙ cycle_own k (words_of next) p (offset_at times (c + 1)) held far ∙ ap words_of goes;
       bytes = region-with_region t.memory part.region next.bytes inside fits ∙ ap (λ (s : PartState). s.bytes) goes;
+      ports = sym (ap (λ (s : PartState). s.ports) goes) ∙ portless_cycle costs (core_place part) c state refl;
       start_is = one.start_is;
     } in
     let others : (place : ℕ) (q : Part) (s : ℕ) → place ≢ i → parts place ≡ Some q → granted place ≡ Some s → IsHere times starts (c + 1) after q s (views place) = λ place q s apart is begins.
@@ -167,6 +171,7 @@ moved times parts granted starts view costs c t p frame parted h late held l =
     record {
       words = cycle_others k (words_of next) p (number_of q) (offset_at times c) (offset_at times (c + 1)) held (other_number place q s apart is begins) ∙ there.words ∙ ap words_of (sym (other_view place apart));
       bytes = region_stays t.memory part.region q.region next.bytes inside fits (parted i place part q start s (λ e. apart (sym e)) l.is.part_is l.is.start_is is begins) ∙ there.bytes ∙ ap (λ (x : PartState). x.bytes) (sym (other_view place apart));
+      ports = ap (λ (x : PartState). x.ports) (other_view place apart) ∙ there.ports;
       start_is = there.start_is;
     } in
     record {

@@ -13,4 +13,5 @@ pub use Rattle.tile_core.proofs.Standing.{AreLabelled, if_stands, standing_is, f
 pub use Rattle.tile_core.proofs.Turns.{ended_stood, begun_stands, begun_late, stays_stands}
 pub use Rattle.tile_core.proofs.Settling.{own_grant}
 -- what a tile answers of the load at a place
+pub use Rattle.tile_core.proofs.Portless.{portless_cycle}
 pub use Rattle.tile_core.proofs.Found.{place_is, grant_place, no_grant_place, log_found, state_found, state_none}

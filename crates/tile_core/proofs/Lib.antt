@@ -1,3 +1,4 @@
+mod Portless
 pub mod Memory
 pub mod Installed
 pub mod Frames

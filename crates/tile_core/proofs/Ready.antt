@@ -64,7 +64,7 @@ front_untouched p grants i grant load labelled there same =
     omega arith)
 
 nothing : ℕ → PartState
-nothing place = record { regs = fresh_registers 0; left = 0; bytes = []; log = new_log 0 }
+nothing place = record { regs = fresh_registers 0; left = 0; bytes = []; ports = []; log = new_log 0 }
 
 -- the part of a grant that ends in the slot can leave, once those before it have
 pub end_ready : (world : World) (schedule : Schedule) (t : TileState) (i : ℕ) (grant : Grant) → IsUnderway world schedule t → i < length schedule.grants.items → grant ≡ get_or schedule.grants.items i grant → ends_in t.at grant ≡ true → CanEnd world (fold (after_end world) t (filter (ends_in t.at) (take i schedule.grants.items))) grant

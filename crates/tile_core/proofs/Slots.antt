@@ -56,7 +56,7 @@ unfolding tile_slot
 slot_fits world all grants t sound apart of made fits =
     let slots = world.platform.partition_slots in
     let site = site_of world all grants t sound apart of made in
-    let view : ℕ → PartState = λ place. record { regs = fresh_registers 0; left = 0; bytes = []; log = new_log 0 } in
+    let view : ℕ → PartState = λ place. record { regs = fresh_registers 0; left = 0; bytes = []; ports = []; log = new_log 0 } in
     let s = with_starts world grants (with_ends world grants t) in
     let R : (ℕ → Option ℕ) → (ℕ → PartState) → TileState → Type 0 = λ granted view u. AreInstalled slots (load_part world t) granted u in
     let done = settled world all grants R view t site (goes_installed slots (load_part world t) (t.at * world.platform.slot_cycles)) made fits in
@@ -122,7 +122,7 @@ holds_at times parts granted starts view cycle at t h = record {
   turn = h.turn;
   installed = installed_same times.slots parts granted t (record t { at = at }) refl refl h.installed;
   inside = h.inside;
-  here = λ place part start is begins. let one = h.here place part start is begins in record { words = one.words; bytes = one.bytes; start_is = one.start_is };
+  here = λ place part start is begins. let one = h.here place part start is begins in record { words = one.words; bytes = one.bytes; ports = one.ports; start_is = one.start_is };
   logs = λ place part is. let at = h.logs place part is in record { inside = at.inside; is = at.is };
 }
 

@@ -1,6 +1,6 @@
 -- The cycles of a slot in three stretches: rows of the microkernel, cycles of the part that is held, and
 -- rows again.
-use Rattle.std.proofs.Common.{◌≡◌, ℕ, zero, suc, ◌+◌, ◌-◌, ◌*◌, ◌/◌, ◌%◌, ◌<◌, ◌≤◌, Bool, true, false, cond, nat_lt, List, ◌++◌, length, get_or, slice_get, slice_set, Option, Some, None, option_and_then, min, refl, sym, subst, ap, ap₂, ◌∙◌, inl, inr, arith}
+use Rattle.std.proofs.Common.{◌≡◌, ℕ, zero, suc, ◌+◌, ◌-◌, ◌*◌, ◌/◌, ◌%◌, ◌<◌, ◌≤◌, Bool, true, false, cond, nat_lt, List, [], ◌++◌, length, get_or, slice_get, slice_set, Option, Some, None, option_and_then, min, refl, sym, subst, ap, ap₂, ◌∙◌, inl, inr, arith}
 use Rattle.std.proofs.lemmas.Bool.{cases_lt, lt-ltb, le-ltb}
 use Rattle.std.proofs.lemmas.List.{set-set, set-get_or, get_or-set_same}
 use Rattle.std.proofs.lemmas.Nat.{div-add-mod', div-mul-add, mod-mul-add, mod_below}
@@ -18,12 +18,14 @@ use Rattle.bundle_model.specs.World.{part_on, IsSoundCatalog}
 use Rattle.tile_memory.specs.Bytes.{IsInside, region_bytes, with_region}
 use Rattle.tile_memory.proofs.Laws.{take-with_region, drop-with_region, region-with_region, length-region_bytes}
 use Rattle.trace_log.specs.Log.{Log, new_log}
+use Rattle.ni_port.specs.SizedPort.{SizedPort}
 use Rattle.part_model.specs.Part.{PartState, part_cycle}
 use Rattle.comik.specs.declared.place.FramePlace.{FramePlace}
 use Rattle.comik.specs.Kernel.{KernelState}
 use Rattle.comik.specs.Places.{frame_place, IsPlace}
 use Rattle.comik.specs.Table.{kernel_row, kernel_rows, kernel_cycle}
 use Rattle.comik.proofs.Laws.{row_parts}
+use Rattle.tile_core.proofs.Portless.{portless_stretch}
 use Rattle.tile_core.specs.Tile.{TileState, place_at, log_at, load_part}
 use Rattle.tile_core.specs.Cycle.{core_place, words_of, held_state, with_state, run_part, run_place, run_held, tile_cycle}
 use Rattle.tile_core.specs.Slot.{with_cycles}
@@ -95,10 +97,11 @@ again_state t place part one other inside fits =
     (again_region t.memory one.bytes other.bytes part.region inside fits) (set-set t.logs place one.log other.log)
 
 -- and is read back
-read_state : (t : TileState) (place : ℕ) (part : Part) (state : PartState) → IsInside t.memory part.region → length state.bytes ≡ part.region.len → place < length t.logs → held_state (with_state t place part state) place part ≡ state
-read_state t place part state inside fits logged =
-    ap₂ (λ (bytes : List ℕ) (log : Log). let s : PartState = record state { bytes = bytes; log = log } in s)
+read_state : (t : TileState) (place : ℕ) (part : Part) (state : PartState) → IsInside t.memory part.region → length state.bytes ≡ part.region.len → state.ports ≡ [] → place < length t.logs → held_state (with_state t place part state) place part ≡ state
+read_state t place part state inside fits none logged =
+    ap₂ (λ (bytes : List ℕ) (log : Log). let s : PartState = record state { bytes = bytes; ports = []; log = log } in s)
     (region-with_region t.memory part.region state.bytes inside fits) (get_or-set_same t.logs place state.log (new_log 0) logged)
+    ∙ ap (λ (ports : List SizedPort). let s : PartState = record state { ports = ports } in s) (sym none)
 
 ran_fits : (costs : Costs) (c n : ℕ) (part : Part) (state : PartState) → length (ran costs c n part state).bytes ≡ length state.bytes
 unfolding after_steps
@@ -127,7 +130,7 @@ part_more parts costs c n t number place (Some part) late held at is fine =
     late_cycle parts costs (c + n) u (Some number) late held
     ∙ ap (run_place parts costs (c + n) u) at
     ∙ ap (run_part costs (c + n) u place) is
-    ∙ ap (λ (s : PartState). with_state u place part (part_cycle costs (core_place part) (c + n) s)) (read_state t place part now good.0 fits good.1)
+    ∙ ap (λ (s : PartState). with_state u place part (part_cycle costs (core_place part) (c + n) s)) (read_state t place part now good.0 fits (portless_stretch costs (core_place part) c n state refl) good.1)
     ∙ again_state t place part now (part_cycle costs (core_place part) (c + n) now) good.0 fits
 
 -- what a place's part needs for its cycles

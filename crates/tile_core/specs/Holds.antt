@@ -1,5 +1,5 @@
 -- What a tile holds of parts that are each of their own.
-use Rattle.std.specs.Prelude.{◌≡◌, ℕ, ◌*◌, ◌<◌, List, length, Option, Some}
+use Rattle.std.specs.Prelude.{◌≡◌, ℕ, ◌*◌, ◌<◌, List, [], length, Option, Some}
 use Rattle.soc_base.specs.Time.{FrameTimes, offset_at}
 use Rattle.platform_model.specs.Platform.{frame_of}
 use Rattle.bundle_model.specs.declared.bundle.Part.{Part}
@@ -14,11 +14,13 @@ use Rattle.tile_core.specs.Tile.{TileState, number_of, log_at, load_part}
 use Rattle.tile_core.specs.Cycle.{words_of}
 use Rattle.tile_core.specs.Fit.{AreInstalled, granted_from}
 
--- an installed part before a cycle: its words, the bytes of its region, and its start by its number
+-- an installed part before a cycle: its words, the bytes of its region, its ports, of which it has none yet,
+-- and its start by its number
 pub record IsHere (times : FrameTimes) (starts : ℕ → ℕ) (cycle : ℕ) (tile : TileState)
     (part : Part) (start : ℕ) (view : PartState) : Type 0 where
   pub words : context_of tile.kernel (offset_at times cycle) (number_of part) ≡ words_of view
   pub bytes : region_bytes tile.memory part.region ≡ view.bytes
+  pub ports : view.ports ≡ []
   pub start_is : starts (number_of part) ≡ start
 
 -- the log at a place

@@ -1,5 +1,5 @@
 -- A tile between two slots, and what can be asked of it.
-use Rattle.std.specs.Prelude.{ℕ, ◌*◌, ◌==◌, Bool, false, List, filter, get_or, if◌then◌else◌, map, option_map, position, replicate, slice_get, Option, Some, None, is_some}
+use Rattle.std.specs.Prelude.{ℕ, ◌*◌, ◌==◌, Bool, false, List, [], filter, get_or, if◌then◌else◌, map, option_map, position, replicate, slice_get, Option, Some, None, is_some}
 use Rattle.std.specs.Option.{option_and_then, option_map_or}
 use Rattle.soc_base.specs.Time.{offset_at}
 use Rattle.soc_base.specs.declared.label.Label.{Label}
@@ -78,12 +78,14 @@ owner_of tile number = option_map (λ load. load.label) (option_and_then (slice_
 abbrev pub log_of : TileState → Label → Option Log
 log_of tile label = option_and_then (slice_get tile.logs) (load_place tile label)
 
--- a part as it is with these words: registers, cycles left, the bytes of its region, its log
+-- a part as it is with these words: registers, cycles left, the bytes of its region, its log. A tile has no
+-- ports yet.
 abbrev pub state_with : TileState → ℕ → Part → Context → PartState
 state_with tile place part words = record {
   regs = words.regs;
   left = words.left;
   bytes = region_bytes tile.memory part.region;
+  ports = [];
   log = log_at tile place;
 }
 

@@ -1,5 +1,5 @@
 -- A part of its own, beside the cycles and slots of a tile.
-use Rattle.std.specs.Prelude.{ℕ, ◌+◌, ◌*◌, List, slice_get, if◌then◌else◌, Option, Some, None}
+use Rattle.std.specs.Prelude.{ℕ, ◌+◌, ◌*◌, List, [], slice_get, if◌then◌else◌, Option, Some, None}
 use Rattle.std.specs.Option.{option_and_then}
 use Rattle.soc_base.specs.Time.{FrameTimes, runs}
 use Rattle.soc_base.specs.Slots.{slots_of}
@@ -37,7 +37,7 @@ view_cycles times costs granted part cycle n view =
 -- a part when its application is granted, with the log that it has
 abbrev pub opening_view : Part → Log → PartState
 opening_view part log =
-    record { regs = fresh_registers part.entry; left = 0; bytes = filled_bytes part.region.len part.image; log = log }
+    record { regs = fresh_registers part.entry; left = 0; bytes = filled_bytes part.region.len part.image; ports = []; log = log }
 
 -- a part after so many cycles, where its application is granted from cycle `start` on
 abbrev pub granted_cycles : World → ℕ → Part → ℕ → ℕ → PartState → PartState

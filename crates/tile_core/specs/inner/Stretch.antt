@@ -1,5 +1,5 @@
 -- Several cycles of a tile in one stretch, past the microkernel's of an instance.
-use Rattle.std.specs.Prelude.{ℕ, List, Option, Some, None}
+use Rattle.std.specs.Prelude.{ℕ, List, [], Option, Some, None}
 use Rattle.soc_base.specs.Steps.{after_steps}
 use Rattle.platform_model.specs.declared.costs.Costs.{Costs}
 use Rattle.bundle_model.specs.declared.bundle.Part.{Part}
@@ -18,7 +18,7 @@ ran costs cycle n part state = after_steps (part_cycle costs (core_place part)) 
 -- the same of a part by its words, its region of a memory, and its log
 abbrev pub ran_in : Costs → ℕ → ℕ → Part → Registers → ℕ → List ℕ → Log → PartState
 ran_in costs cycle n part regs left memory log =
-    ran costs cycle n part (record { regs = regs; left = left; bytes = region_bytes memory part.region; log = log })
+    ran costs cycle n part (record { regs = regs; left = left; bytes = region_bytes memory part.region; ports = []; log = log })
 
 -- and the memory then
 abbrev pub memory_ran : Costs → ℕ → ℕ → Part → Registers → ℕ → List ℕ → Log → List ℕ

@@ -46,6 +46,9 @@ fn run(
         left,
         memory,
         region: part.region,
+        // A tile has no ports yet.
+        ports: &mut [],
+        map: &[],
         log,
     };
     running.run(costs, place, cycle, count);
