@@ -1,19 +1,19 @@
 -- A part that leaves the tile, and one that comes.
-use Rattle.std.proofs.Common.{◌≡◌, ◌≢◌, ℕ, ◌+◌, ◌*◌, ◌^◌, ◌<◌, ◌≤◌, List, length, Option, Some, None, IfSome, refl, sym, subst, ap, ◌∙◌, inl, inr, arith}
+use Rattle.std.proofs.Common.{◌≡◌, ◌≢◌, ℕ, ◌*◌, ◌^◌, ◌<◌, ◌≤◌, length, Option, Some, None, sym, subst, ap, ◌∙◌, inl, inr, arith}
 use Rattle.std.proofs.lemmas.Bool.{cases_eq}
 use Rattle.std.proofs.lemmas.Option.{same_Some, none-some, IfSome_then}
 use Rattle.soc_base.specs.Time.{FrameTimes, offset_at}
 use Rattle.bundle_model.specs.declared.bundle.Part.{Part}
-use Rattle.tile_memory.specs.Bytes.{IsInside, with_region, filled_bytes}
+use Rattle.tile_memory.specs.Bytes.{with_region, filled_bytes}
 use Rattle.tile_memory.proofs.Laws.{region-with_region, length-with_region, length-filled_bytes}
 use Rattle.part_model.specs.Part.{PartState}
-use Rattle.comik.specs.Kernel.{IsInstalled, owner_at}
+use Rattle.comik.specs.Kernel.{owner_at}
 use Rattle.comik.proofs.Laws.{cleared_others, cleared_in_step, whole_cleared, prepared_own, prepared_others, prepared_in_step, whole_prepared, installed_apart, turn_cleared, turn_prepared}
 use Rattle.tile_core.specs.Tile.{TileState, number_of}
 use Rattle.tile_core.specs.Cycle.{words_of}
 use Rattle.tile_core.specs.Slot.{removed, installed}
 use Rattle.tile_core.specs.Views.{opening_view}
-use Rattle.tile_core.specs.Holds.{IsHere, IsLogged, Holds}
+use Rattle.tile_core.specs.Holds.{IsHere, Holds}
 use Rattle.tile_core.proofs.Installed.{IsFree, installed_removed, installed_installed, installed_by, numbers_apart}
 use Rattle.tile_core.proofs.Holding.{ArePartedRegions}
 use Rattle.tile_core.proofs.Frames.{region_stays}

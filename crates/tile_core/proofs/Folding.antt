@@ -1,13 +1,11 @@
 -- The grants that end in a slot, and those that begin in it, one after the other: what a tile holds
 -- then. It is proved of every relation between a tile, the cycles from which on its loads are granted,
 -- and views of their parts, that goes with a part which leaves and with one which comes.
-use Rattle.std.proofs.Common.{◌≡◌, ◌≢◌, ℕ, zero, suc, ◌+◌, ◌*◌, ◌^◌, ◌<◌, ◌≤◌, ◌==◌, ◌&&◌, ◌||◌, Bool, true, false, cond, List, [], ◌∷◌, filter, fold, length, map, position, slice_get, Option, Some, None, option_and_then, refl, sym, subst, ap, ap₂, ◌∙◌, inl, inr, arith}
+use Rattle.std.proofs.Common.{◌≡◌, ◌≢◌, ℕ, zero, suc, ◌==◌, ◌&&◌, ◌||◌, Bool, true, false, cond, List, [], ◌∷◌, filter, fold, length, position, slice_get, Option, Some, None, option_and_then, refl, sym, subst, ap, ap₂, ◌∙◌, inl, inr, arith}
 use Rattle.std.specs.Option.{option_map_or}
 use Rattle.std.proofs.lemmas.Bool.{false≢true, cases_Bool, false_from_ne_true, and_from, eq-eqb}
 use Rattle.std.proofs.lemmas.List.{length-map, length-set}
-use Rattle.std.proofs.lemmas.Option.{none-some, same_Some}
 use Rattle.soc_base.specs.declared.label.Label.{Label}
-use Rattle.soc_base.specs.declared.region.Region.{Region}
 use Rattle.bundle_model.specs.declared.bundle.Part.{Part}
 use Rattle.bundle_model.specs.declared.world.World.{World}
 use Rattle.bundle_model.specs.declared.world.LoadName.{LoadName}
@@ -17,13 +15,13 @@ use Rattle.bundle_model.proofs.Laws.{AreKeyed, keyed_pairs, same_so}
 use Rattle.part_model.specs.Part.{PartState}
 use Rattle.comik.specs.Kernel.{without}
 use Rattle.comik.proofs.Laws.{length_claimed}
-use Rattle.tile_core.specs.Tile.{TileState, number_of, load_part, load_place}
-use Rattle.tile_core.specs.Slot.{removed, removed_if, after_end, installed, installed_if, installed_at, after_start}
+use Rattle.tile_core.specs.Tile.{TileState, number_of, load_part}
+use Rattle.tile_core.specs.Slot.{removed, removed_if, after_end, installed}
 use Rattle.tile_core.specs.Fit.{AreInstalled}
 use Rattle.tile_core.specs.Views.{opening_view}
 use Rattle.tile_core.proofs.Coming.{IsRoom}
 use Rattle.bundle_model.proofs.Laws.{passing_place, no_place}
-use Rattle.tile_core.proofs.Standing.{AreLabelled, first_apart, rest_apart, touched}
+use Rattle.tile_core.proofs.Standing.{AreLabelled, rest_apart, touched}
 use Rattle.tile_core.proofs.Sites.{site_part}
 
 -- a tile of a number, before a slot, with these loads, and with an owner and a place for each slot

@@ -1,11 +1,9 @@
 -- What a tile answers of the load at a place.
-use Rattle.std.proofs.Common.{◌≡◌, ◌≢◌, ℕ, zero, suc, ◌+◌, ◌*◌, ◌<◌, ◌==◌, ◌&&◌, Bool, true, false, cond, List, [], ◌∷◌, filter, position, slice_get, Option, Some, None, is_some, option_and_then, Contains, refl, sym, subst, ap, ◌∙◌, inl, inr, arith}
+use Rattle.std.proofs.Common.{◌≡◌, ℕ, ◌==◌, Bool, true, false, cond, List, [], position, slice_get, Option, Some, None, is_some, option_and_then, Contains, refl, sym, ap, ◌∙◌, inl, inr}
 use Rattle.std.specs.Option.{option_map_or}
-use Rattle.std.proofs.lemmas.Bool.{true≢false, cases_Bool, cases_eq, and_from, eq-eqb, eqb-true, ne_eqb, cond-true, cond-false}
-use Rattle.std.proofs.lemmas.Option.{none-some, same_Some, slice_get-get_or}
-use Rattle.soc_base.specs.Time.{offset_at}
+use Rattle.std.proofs.lemmas.Bool.{true≢false, cases_eq, and_from, eq-eqb, ne_eqb}
+use Rattle.std.proofs.lemmas.Option.{none-some, slice_get-get_or}
 use Rattle.soc_base.specs.declared.label.Label.{Label}
-use Rattle.platform_model.specs.Platform.{frame_of}
 use Rattle.bundle_model.specs.declared.bundle.Part.{Part}
 use Rattle.bundle_model.specs.declared.world.World.{World}
 use Rattle.bundle_model.specs.declared.world.LoadName.{LoadName}
@@ -16,8 +14,7 @@ use Rattle.trace_log.specs.Log.{Log, new_log}
 use Rattle.ni_port.specs.SizedPort.{SizedPort}
 use Rattle.part_model.specs.Part.{PartState}
 use Rattle.comik.specs.declared.context.Context.{Context}
-use Rattle.comik.specs.Switching.{context_of}
-use Rattle.tile_core.specs.Tile.{TileState, loads_on, number_of, place_at, log_at, load_part, load_place, log_of, state_with, words_at, is_installed, state_if, state_at, state_of}
+use Rattle.tile_core.specs.Tile.{TileState, number_of, place_at, load_part, load_place, log_of, state_with, words_at, is_installed, state_if, state_at, state_of}
 use Rattle.tile_core.specs.Cycle.{words_of}
 use Rattle.tile_core.specs.Fit.{granted_from}
 use Rattle.tile_core.specs.Holds.{HoldsGranted}

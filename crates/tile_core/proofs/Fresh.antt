@@ -1,11 +1,10 @@
 -- A tile before its first slot.
-use Rattle.std.proofs.Common.{◌≡◌, ℕ, ◌+◌, ◌*◌, ◌<◌, Bool, true, false, cond, ◌&&◌, nat_lt, List, [], ◌∷◌, get_or, length, map, replicate, slice_get, Option, Some, None, option_map, option_and_then, refl, sym, subst, ap, ◌∙◌, inl, inr, arith}
+use Rattle.std.proofs.Common.{◌≡◌, ℕ, ◌*◌, ◌<◌, Bool, true, false, cond, ◌&&◌, nat_lt, List, [], ◌∷◌, get_or, length, map, replicate, slice_get, Option, Some, None, option_map, option_and_then, refl, sym, subst, ap, ◌∙◌, inl, inr, arith}
 use Rattle.std.specs.Option.{option_map_or}
 use Rattle.std.proofs.lemmas.Bool.{cases_lt}
 use Rattle.std.proofs.lemmas.Bool.Decides.{nat_tests}
 use Rattle.std.proofs.lemmas.List.{length-map, length-replicate, get_or-replicate, get_or_past}
 use Rattle.std.proofs.lemmas.Option.{none-some, option_and_then_some, slice_get-map, slice_get_within, get_or_from_slice_get}
-use Rattle.soc_base.specs.Time.{offset_at}
 use Rattle.soc_base.specs.declared.label.Label.{Label}
 use Rattle.platform_model.specs.Platform.{frame_of}
 use Rattle.bundle_model.specs.declared.bundle.Part.{Part}
@@ -14,13 +13,13 @@ use Rattle.bundle_model.specs.declared.world.LoadName.{LoadName}
 use Rattle.bundle_model.specs.declared.world.Grant.{Grant}
 use Rattle.bundle_model.specs.Grants.{lasts_to}
 use Rattle.bundle_model.specs.World.{same_label, part_on, IsSoundWorld}
-use Rattle.trace_log.specs.Log.{Log, new_log}
+use Rattle.trace_log.specs.Log.{new_log}
 use Rattle.part_model.specs.Part.{PartState}
 use Rattle.comik.specs.Turn.{TurnOf}
 use Rattle.comik.proofs.Laws.{none_at, whole_fresh, turn_fresh}
-use Rattle.tile_core.specs.Tile.{TileState, loads_on, fresh_log, fresh_tile, place_at, load_part}
+use Rattle.tile_core.specs.Tile.{TileState, loads_on, fresh_log, fresh_tile, load_part}
 use Rattle.tile_core.specs.Fit.{standing_grant, granted_cycle, granted_from, AreInstalled, IsFit, IsMadeFor}
-use Rattle.tile_core.specs.Holds.{IsLogged, Holds, HoldsGranted}
+use Rattle.tile_core.specs.Holds.{HoldsGranted}
 use Rattle.tile_core.proofs.Made.{load_part_inside}
 
 no_test : (same early lasts : Bool) → early ≡ false → (same && (early && lasts)) ≡ false

@@ -1,5 +1,5 @@
 -- A tile over the cycles of a slot.
-use Rattle.std.proofs.Common.{◌≡◌, ℕ, zero, suc, ◌+◌, Option, Some, refl, sym, subst, ap, ◌∙◌, arith}
+use Rattle.std.proofs.Common.{◌≡◌, ℕ, zero, suc, ◌+◌, Option, refl, sym, subst, ap, arith}
 use Rattle.soc_base.specs.Steps.{after_steps}
 use Rattle.soc_base.specs.Time.{FrameTimes}
 use Rattle.soc_base.specs.Frame.{IsFrame}

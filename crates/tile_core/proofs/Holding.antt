@@ -1,9 +1,8 @@
 -- A cycle of the tile: it holds the parts, each after its own cycle.
 use Rattle.std.proofs.Common.{◌≡◌, ◌≢◌, ℕ, ◌+◌, ◌*◌, ◌<◌, ◌≤◌, Bool, true, false, cond, ◌&&◌, ◌⊎◌, nat_lt, nat_le, List, [], get_or, slice_set, length, Option, Some, None, IfSome, refl, sym, subst, ap, ◌∙◌, inl, inr, arith}
-use Rattle.std.specs.List.{slice_get}
 use Rattle.std.proofs.lemmas.Bool.{cases_eq, cases_lt, eq-eqb, ne_eqb, lt-ltb, le-ltb, lt-leb}
 use Rattle.std.proofs.lemmas.List.{get_or-set_same, get_or-set_other, length-set}
-use Rattle.std.proofs.lemmas.Option.{same_Some, slice_get_within}
+use Rattle.std.proofs.lemmas.Option.{same_Some}
 use Rattle.std.proofs.lemmas.Nat.{mod_below}
 use Rattle.soc_base.specs.declared.region.Region.{Region}
 use Rattle.soc_base.specs.Time.{FrameTimes, instance_at, offset_at, served_at, is_among, runs}
@@ -25,12 +24,11 @@ use Rattle.comik.specs.Switching.{IsSaved, InStep, Keeps, context_of, context_in
 use Rattle.comik.specs.Turn.{InTurn, TurnOf}
 use Rattle.comik.proofs.Laws.{next_cycle, row_parts, held_is, of_held, whole_words, cycle_keeps, row_whole, row_still, whole_file, cycle_own, cycle_others, turn_cycle, held_runs}
 use Rattle.tile_core.proofs.Portless.{portless_cycle}
-use Rattle.tile_core.specs.Tile.{TileState, place_at, number_of, log_at}
+use Rattle.tile_core.specs.Tile.{TileState, place_at, number_of}
 use Rattle.tile_core.specs.Cycle.{core_place, words_of, held_state, with_state, run_part, run_place, run_held, tile_cycle}
-use Rattle.tile_core.specs.Fit.{IsNumberOf, AreInstalled}
 use Rattle.tile_core.specs.Views.{view_step}
 use Rattle.tile_core.specs.Holds.{IsHere, IsLogged, Holds}
-use Rattle.tile_core.proofs.Installed.{IsOwner, owner_is, installed_same, numbers_apart}
+use Rattle.tile_core.proofs.Installed.{IsOwner, owner_is, installed_same}
 use Rattle.tile_core.proofs.Frames.{region_stays}
 use Rattle.part_model.proofs.Laws.{cycle_size as bytes_kept}
 use Rattle.tile_core.proofs.Shapes.{cycle_shape}

@@ -1,13 +1,13 @@
 -- What is installed on a tile after a part has left, after one has come, and after words have changed.
-use Rattle.std.proofs.Common.{◌≡◌, ◌≢◌, ℕ, ◌+◌, ◌^◌, ◌<◌, ◌≤◌, ◌==◌, Bool, true, false, cond, ◌&&◌, nat_lt, List, get_or, slice_set, length, Option, Some, None, IsSome, refl, sym, subst, ap, ◌∙◌, inl, inr, arith}
+use Rattle.std.proofs.Common.{◌≡◌, ◌≢◌, ℕ, ◌^◌, ◌<◌, ◌==◌, Bool, true, false, cond, ◌&&◌, nat_lt, List, get_or, slice_set, length, Option, Some, None, IsSome, refl, sym, subst, ap, ◌∙◌, inl, inr, arith}
 use Rattle.std.specs.Int.{bit_at}
 use Rattle.std.proofs.lemmas.Bool.{false≢true, cases_eq, cases_lt, cases_Bool, eq-eqb, ne_eqb, eqb-true, lt-ltb, and_parts}
 use Rattle.std.proofs.lemmas.Nat.Bits.{bit_at_above}
 use Rattle.std.proofs.lemmas.List.{get_or-set_same, get_or-set_other, get_or_past}
 use Rattle.std.proofs.lemmas.Option.{same_Some, none-some}
 use Rattle.bundle_model.specs.declared.bundle.Part.{Part}
-use Rattle.comik.specs.Kernel.{AreFree, IsInstalled, owner_at, has, without, least_slot}
-use Rattle.comik.specs.Parts.{claimed, prepared}
+use Rattle.comik.specs.Kernel.{AreFree, IsInstalled, owner_at, has, without}
+use Rattle.comik.specs.Parts.{prepared}
 use Rattle.comik.proofs.Laws.{claimed_at, freed_at, least_is_in, least_below, installed_apart, still_installed}
 use Rattle.tile_core.specs.Tile.{TileState, number_of, place_at}
 use Rattle.tile_core.specs.Slot.{removed, installed}

@@ -1,9 +1,9 @@
 -- What a tile was made for stays: in a part that leaves or comes, in a cycle, and in a slot.
-use Rattle.std.proofs.Common.{◌≡◌, ℕ, zero, suc, ◌+◌, ◌*◌, ◌<◌, ◌≤◌, Bool, true, false, cond, nat_lt, List, [], ◌∷◌, filter, fold, length, slice_get, Option, Some, None, option_and_then, refl, sym, subst, ap, ap₂, ◌∙◌, arith}
+use Rattle.std.proofs.Common.{◌≡◌, ℕ, zero, suc, ◌+◌, ◌*◌, ◌≤◌, Bool, true, false, cond, nat_lt, List, [], ◌∷◌, filter, fold, length, slice_get, Option, Some, None, option_and_then, refl, sym, subst, ap, ap₂, ◌∙◌, arith}
 use Rattle.std.proofs.lemmas.List.{length-map, length-set}
 use Rattle.soc_base.specs.Frame.{IsFrame}
 use Rattle.soc_base.specs.Steps.{after_steps}
-use Rattle.soc_base.specs.Time.{FrameTimes, offset_at, served_at}
+use Rattle.soc_base.specs.Time.{offset_at, served_at}
 use Rattle.platform_model.specs.declared.costs.Costs.{Costs}
 use Rattle.platform_model.specs.Platform.{frame_of}
 use Rattle.bundle_model.specs.declared.bundle.Part.{Part}
@@ -22,7 +22,7 @@ use Rattle.comik.proofs.Laws.{row_parts, length_claimed}
 use Rattle.std.proofs.lemmas.Option.{option_and_then_some}
 use Rattle.tile_core.specs.Tile.{TileState, number_of, place_at, load_part, load_place, loads_on}
 use Rattle.tile_core.specs.Cycle.{core_place, held_state, with_state, run_part, run_place, run_held, tile_cycle}
-use Rattle.tile_core.specs.Slot.{ends_in, begins_in, removed, removed_if, after_end, with_ends, installed, installed_if, installed_at, after_start, with_starts, with_cycles, tile_slot}
+use Rattle.tile_core.specs.Slot.{ends_in, begins_in, removed_if, after_end, with_ends, installed, installed_if, installed_at, after_start, with_starts, with_cycles, tile_slot}
 use Rattle.tile_core.specs.Fit.{IsMadeFor}
 use Rattle.part_model.proofs.Laws.{cycle_size as bytes_kept}
 

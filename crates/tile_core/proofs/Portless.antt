@@ -1,5 +1,6 @@
 -- A part without ports has none after its cycles.
-use Rattle.std.proofs.Common.{◌≡◌, ℕ, zero, suc, ◌+◌, List, [], slice_get, slice_set, Some, refl, sym, ap, ◌∙◌}
+use Rattle.std.proofs.Common.{◌≡◌, ℕ, zero, suc, ◌+◌, List, [], slice_get, Some, refl, sym, ap, ◌∙◌, arith}
+use Rattle.std.specs.List.{IsDistinct}
 use Rattle.std.proofs.lemmas.Option.{none-some}
 use Rattle.soc_base.specs.Steps.{after_steps}
 use Rattle.ni_port.specs.SizedPort.{SizedPort}
@@ -7,6 +8,7 @@ use Rattle.platform_model.specs.declared.costs.Costs.{Costs}
 use Rattle.part_model.specs.declared.record.Place.{Place}
 use Rattle.part_model.specs.Part.{PartState, part_cycle}
 use Rattle.part_model.proofs.Laws.{IsKept, cycle_keeps}
+use Rattle.tile_mmio.specs.Ports.{AreOwn, own_ports}
 
 none_there : {X : Type 0} (ports : List SizedPort) (number : ℕ) (port : SizedPort) → ports ≡ [] → slice_get ports number ≡ Some port → X
 none_there ports number port none there = absurd (none-some port (ap (λ ps. slice_get ps number) (sym none) ∙ there))
@@ -28,3 +30,12 @@ unfolding after_steps
 portless_stretch costs place from zero p none = none
 portless_stretch costs place from (suc n) p none =
     portless_cycle costs place (from + n) (after_steps (part_cycle costs place) from n p) (portless_stretch costs place from n p none)
+
+-- a tile without ports
+pub own_none : AreOwn [] []
+unfolding IsDistinct
+own_none = record { within = λ k d inside. absurd (omega arith); apart = tt }
+
+pub ports_none : (ports : List SizedPort) → own_ports ports [] ≡ []
+unfolding own_ports
+ports_none ports = refl

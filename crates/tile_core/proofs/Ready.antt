@@ -1,34 +1,33 @@
 -- What the steps of a slot find.
-use Rattle.std.proofs.Common.{◌≡◌, ◌≢◌, ℕ, zero, suc, ◌+◌, ◌*◌, ◌^◌, ◌<◌, ◌≤◌, Bool, true, false, cond, not, ◌&&◌, List, [], ◌∷◌, ◌++◌, filter, fold, get_or, length, position, slice_get, take, Option, Some, None, option_and_then, All, AllPairs, refl, sym, subst, ap, ◌∙◌, inl, inr, arith}
+use Rattle.std.proofs.Common.{◌≡◌, ℕ, zero, suc, ◌+◌, ◌*◌, ◌^◌, ◌<◌, Bool, true, false, cond, not, ◌&&◌, List, [], ◌∷◌, filter, fold, get_or, length, position, slice_get, take, Option, Some, None, refl, sym, subst, ap, ◌∙◌, arith}
 use Rattle.std.specs.List.{list_all}
-use Rattle.std.proofs.lemmas.Bool.{cases_lt, and_parts, not-true}
-use Rattle.std.proofs.lemmas.List.{get_or-take, length-take-le}
-use Rattle.std.proofs.lemmas.Option.{none-some, same_Some, slice_get_within, slice_get-get_or, get_or_from_slice_get}
+use Rattle.std.proofs.lemmas.Bool.{and_parts, not-true}
+use Rattle.std.proofs.lemmas.Option.{none-some, same_Some, slice_get-get_or, get_or_from_slice_get}
 use Rattle.tile_memory.specs.Bytes.{IsInside}
 use Rattle.bundle_model.specs.declared.bundle.Part.{Part}
 use Rattle.bundle_model.specs.declared.world.World.{World}
 use Rattle.bundle_model.specs.declared.world.LoadName.{LoadName}
 use Rattle.bundle_model.specs.declared.world.Grant.{Grant}
 use Rattle.bundle_model.specs.declared.world.Schedule.{Schedule}
-use Rattle.bundle_model.specs.World.{same_label, IsSoundWorld}
-use Rattle.bundle_model.proofs.Laws.{AreKeyed, keyed_pairs}
+use Rattle.bundle_model.specs.World.{same_label}
+use Rattle.bundle_model.proofs.Laws.{keyed_pairs}
 use Rattle.rv_core.specs.Registers.{fresh_registers}
 use Rattle.trace_log.specs.Log.{new_log}
 use Rattle.part_model.specs.Part.{PartState}
-use Rattle.tile_core.specs.Tile.{TileState, number_of, place_at, load_part, load_place}
+use Rattle.tile_core.specs.Tile.{TileState, number_of, load_part, load_place}
 use Rattle.tile_core.specs.Slot.{ends_in, begins_in, after_end, with_ends, after_start, with_starts}
-use Rattle.tile_core.specs.Fit.{AreInstalled, IsMadeFor, IsUnderway}
-use Rattle.tile_core.specs.inner.Ready.{IsSoundTile, CanLeave, CanCome, CanEnd, CanBegin, HasEnded}
+use Rattle.tile_core.specs.Fit.{AreInstalled, IsUnderway}
+use Rattle.tile_core.specs.inner.Ready.{IsSoundTile, CanCome, CanEnd, CanBegin, HasEnded}
 use Rattle.tile_core.proofs.Installed.{read_inside, number_inside}
 use Rattle.tile_core.proofs.Stretches.{fine_parts}
-use Rattle.tile_core.proofs.Standing.{AreLabelled, touched, untouched}
-use Rattle.tile_core.proofs.Sites.{IsSite, site_part, site_granted, loads_keyed}
-use Rattle.tile_core.proofs.Folding.{IsTile, parts_are, touches, AreThere, IsAt, at_place_of, fold_out}
-use Rattle.tile_core.proofs.Rooms.{AreStanding, room_is}
+use Rattle.tile_core.proofs.Standing.{AreLabelled, untouched}
+use Rattle.tile_core.proofs.Sites.{site_granted, loads_keyed}
+use Rattle.tile_core.proofs.Folding.{parts_are, touches, AreThere, at_place_of, fold_out}
+use Rattle.tile_core.proofs.Rooms.{room_is}
 use Rattle.tile_core.proofs.Starting.{AreStarts, fold_in}
 use Rattle.tile_core.proofs.Settling.{goes_installed, have_parts, ends_there, granted_mid, mid_stands, mid_starts, ended}
 use Rattle.tile_core.proofs.Slots.{site_of, tile_of}
-use Rattle.tile_core.proofs.Made.{IsAlike, alike_same, alike_more, made_alike, load_part_inside, ends_alike, ended_alike, starts_alike, settled_alike}
+use Rattle.tile_core.proofs.Made.{alike_more, made_alike, load_part_inside, ended_alike, starts_alike, settled_alike}
 
 pub held_inside : (world : World) (t : TileState) (place : ℕ) (part : Part) → IsSoundTile world t → load_part world t place ≡ Some part → IsInside t.memory part.region
 held_inside world t place part tile is = (fine_parts world tile.loads t tile.sound.catalog tile.made place part is).0

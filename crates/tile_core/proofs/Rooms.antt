@@ -1,7 +1,7 @@
 -- There is room for the part of a grant that stands in a slot beside those of the others that do.
-use Rattle.std.proofs.Common.{◌≡◌, ◌≢◌, ℕ, zero, suc, ◌+◌, ◌*◌, ◌^◌, ◌<◌, ◌≤◌, ◌==◌, true, List, [], slice_get, Option, Some, None, refl, sym, subst, ap, ◌∙◌, inl, inr, arith}
+use Rattle.std.proofs.Common.{◌≡◌, ◌≢◌, ℕ, zero, suc, ◌*◌, ◌^◌, ◌<◌, ◌≤◌, true, List, [], slice_get, Option, Some, None, refl, sym, subst, ap, ◌∙◌, inl, inr, arith}
 use Rattle.std.specs.Int.{bit_at}
-use Rattle.std.proofs.lemmas.Bool.{cases_eq, cases_lt, eq-eqb}
+use Rattle.std.proofs.lemmas.Bool.{cases_lt, eq-eqb}
 use Rattle.std.proofs.lemmas.Nat.{pow_below}
 use Rattle.std.proofs.lemmas.Nat.Bits.{bit_at_above}
 use Rattle.std.proofs.lemmas.Option.{none-some}
@@ -17,7 +17,7 @@ use Rattle.bundle_model.specs.Grants.{stands_at}
 use Rattle.bundle_model.proofs.Laws.{AreDisjoint}
 use Rattle.tile_core.specs.Tile.{TileState}
 use Rattle.tile_core.specs.Fit.{AreInstalled}
-use Rattle.tile_core.proofs.Installed.{IsFree, room_free}
+use Rattle.tile_core.proofs.Installed.{room_free}
 use Rattle.tile_core.proofs.Coming.{IsRoom}
 use Rattle.tile_core.proofs.Sites.{IsSite, site_part, IsGranted, site_part_is, granted_disjoint}
 use Rattle.tile_core.proofs.Folding.{IsTile, IsAt}

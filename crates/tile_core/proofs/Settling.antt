@@ -1,29 +1,28 @@
 -- A tile after the grants of a slot have ended and begun.
-use Rattle.std.proofs.Common.{◌≡◌, ◌≢◌, ℕ, suc, ◌+◌, ◌*◌, ◌==◌, ◌&&◌, Bool, true, false, cond, List, fold, filter, length, slice_get, Option, Some, None, option_map, option_and_then, refl, sym, subst, ap, ap₂, ◌∙◌, inl, inr}
+use Rattle.std.proofs.Common.{◌≡◌, ℕ, ◌+◌, ◌*◌, ◌==◌, Bool, true, false, cond, List, fold, filter, slice_get, Option, Some, None, option_and_then, refl, sym, subst, ap, ap₂, ◌∙◌}
 use Rattle.std.specs.Option.{option_map_or}
-use Rattle.std.proofs.lemmas.Bool.{false≢true, and_parts, and_from, cases_Bool, eqb-true, eq-eqb, ne_eqb}
-use Rattle.std.proofs.lemmas.Option.{none-some, same_Some}
+use Rattle.std.proofs.lemmas.Bool.{and_parts, and_from, eqb-true, eq-eqb, ne_eqb}
+use Rattle.std.proofs.lemmas.Option.{none-some}
 use Rattle.soc_base.specs.declared.label.Label.{Label}
 use Rattle.soc_base.specs.Time.{FrameTimes}
 use Rattle.bundle_model.specs.declared.bundle.Part.{Part}
 use Rattle.bundle_model.specs.declared.world.World.{World}
 use Rattle.bundle_model.specs.declared.world.LoadName.{LoadName}
 use Rattle.bundle_model.specs.declared.world.Grant.{Grant}
-use Rattle.bundle_model.specs.Grants.{stands_at}
 use Rattle.bundle_model.specs.World.{same_label, part_on}
 use Rattle.bundle_model.proofs.Laws.{keyed_pairs, found_at, same_so}
 use Rattle.part_model.specs.Part.{PartState}
 use Rattle.tile_core.specs.Tile.{TileState, number_of}
 use Rattle.tile_core.specs.Slot.{grant_of, ends_in, begins_in, after_end, with_ends, after_start, with_starts}
-use Rattle.tile_core.specs.Fit.{AreInstalled, standing_grant, granted_cycle}
+use Rattle.tile_core.specs.Fit.{AreInstalled, granted_cycle}
 use Rattle.tile_core.specs.Holds.{Holds}
 use Rattle.tile_core.proofs.Installed.{installed_by, installed_removed, installed_installed}
 use Rattle.tile_core.proofs.Coming.{holds_removed, holds_installed, holds_by}
-use Rattle.tile_core.proofs.Standing.{AreLabelled, touched, touched_is, if_stands, standing_is, first_cycle, next_standing}
+use Rattle.tile_core.proofs.Standing.{AreLabelled, touched_is, if_stands, standing_is, first_cycle, next_standing}
 use Rattle.tile_core.proofs.Sites.{IsSite, site_part, site_granted, IsGranted, load_has, loads_keyed, site_granted_is}
 use Rattle.tile_core.proofs.Folding.{IsTile, touches, GoesOn, granted_without, AreThere, HaveParts, fold_out}
 use Rattle.tile_core.proofs.Rooms.{AreStanding}
-use Rattle.tile_core.proofs.Starting.{granted_with, views_with, IsStart, AreStarts, fold_in}
+use Rattle.tile_core.proofs.Starting.{granted_with, views_with, AreStarts, fold_in}
 use Rattle.tile_core.proofs.Turns.{ended_stood, begun_stands, begun_late, stays_stands}
 
 -- what is installed goes with parts that leave and come

@@ -1,5 +1,5 @@
 -- The loads of a tile, their parts, and the grants that are theirs.
-use Rattle.std.proofs.Common.{◌≡◌, ◌≢◌, ℕ, ◌*◌, ◌%◌, ◌^◌, ◌<◌, ◌≤◌, ◌==◌, ◌&&◌, Bool, true, List, filter, find, get_or, length, slice_get, Option, Some, None, is_some, option_map, option_and_then, All, refl, sym, ap, ◌∙◌, subst, arith}
+use Rattle.std.proofs.Common.{◌≡◌, ◌≢◌, ℕ, ◌*◌, ◌&&◌, true, List, get_or, slice_get, Option, Some, None, is_some, option_map, option_and_then, All, refl, sym, ap, ◌∙◌, subst}
 use Rattle.std.proofs.lemmas.Bool.{and_parts, false≢true}
 use Rattle.std.proofs.lemmas.List.Elements.{All-filter, filter_passes}
 use Rattle.std.proofs.lemmas.List.Kept.{AllPairs-filter}
@@ -8,7 +8,6 @@ use Rattle.bundle_model.specs.declared.bundle.Part.{Part}
 use Rattle.bundle_model.specs.declared.world.World.{World}
 use Rattle.bundle_model.specs.declared.world.LoadName.{LoadName}
 use Rattle.bundle_model.specs.declared.world.Grant.{Grant}
-use Rattle.bundle_model.specs.WellFormed.{IsWellFormedPart}
 use Rattle.bundle_model.specs.Grants.{IsApart, bundle_at, stands_at}
 use Rattle.bundle_model.specs.World.{same_label, part_on, IsSoundWorld, AreOfLoads}
 use Rattle.bundle_model.proofs.Laws.{AreKeyed, at_place, keyed_pairs, found_place, AreDisjoint, HasPart, same_so, IsPartOn, is_part_on, grant_bundle, standing_disjoint}

@@ -1,9 +1,8 @@
 -- One slot of a tile: what is installed is fit again, and the tile holds its parts, each after its slot.
-use Rattle.std.proofs.Common.{◌≡◌, ◌≢◌, ℕ, ◌+◌, ◌*◌, ◌<◌, ◌≤◌, ◌&&◌, Bool, true, false, cond, nat_lt, List, [], length, slice_get, Option, Some, None, IsSome, option_and_then, refl, sym, subst, ap, ap₂, ◌∙◌, inl, inr, arith}
+use Rattle.std.proofs.Common.{◌≡◌, ℕ, ◌+◌, ◌*◌, Bool, false, cond, List, [], slice_get, Option, Some, None, IsSome, option_and_then, refl, sym, subst, ap, ap₂, ◌∙◌, inl, inr, arith}
 use Rattle.std.specs.Option.{option_map_or}
 use Rattle.std.proofs.lemmas.Bool.{true≢false, false≢true, false_from_ne_true, cases_Bool}
-use Rattle.std.proofs.lemmas.Option.{none-some, same_Some}
-use Rattle.soc_base.specs.Frame.{IsFrame}
+use Rattle.std.proofs.lemmas.Option.{none-some}
 use Rattle.soc_base.specs.Steps.{after_steps}
 use Rattle.soc_base.specs.Time.{FrameTimes}
 use Rattle.soc_base.proofs.Laws.{steps_still}
@@ -29,11 +28,11 @@ use Rattle.tile_core.proofs.Holding.{AreParted}
 use Rattle.tile_core.proofs.Coming.{holds_by}
 use Rattle.tile_core.proofs.Going.{holds_going}
 use Rattle.tile_core.proofs.Standing.{AreLabelled, touched_is, if_stands, standing_is, first_cycle}
-use Rattle.tile_core.proofs.Sites.{IsSite, site_part, site_granted, site_granted_is}
+use Rattle.tile_core.proofs.Sites.{IsSite, site_granted, site_granted_is}
 use Rattle.tile_core.proofs.Folding.{IsTile, touches, GoesOn}
 use Rattle.tile_core.proofs.Rooms.{AreStanding, apart_at}
 use Rattle.tile_core.proofs.Starting.{opened, views_with}
-use Rattle.tile_core.proofs.Settling.{HoldsSome, goes_installed, goes_holds, granted_mid, ended, begun}
+use Rattle.tile_core.proofs.Settling.{HoldsSome, goes_installed, goes_holds, ended, begun}
 use Rattle.tile_core.proofs.Turns.{begun_stands}
 use Rattle.tile_core.proofs.Made.{frame_is, IsAlike, alike_more, made_alike, parts_alike, cycles_kept, settled_alike}
 

@@ -1,22 +1,21 @@
 -- The grants that begin in a slot, one after the other: what a tile holds then.
-use Rattle.std.proofs.Common.{◌≡◌, ◌≢◌, ℕ, zero, suc, ◌+◌, ◌*◌, ◌==◌, Bool, true, false, cond, List, [], ◌∷◌, filter, fold, position, slice_get, Option, Some, None, refl, sym, subst, ap, ap₂, ◌∙◌, inl, inr}
+use Rattle.std.proofs.Common.{◌≡◌, ℕ, zero, suc, ◌+◌, ◌*◌, Bool, true, false, cond, List, [], ◌∷◌, filter, fold, position, slice_get, Option, Some, None, refl, sym, subst, ap, ap₂, ◌∙◌, inl, inr}
 use Rattle.std.specs.Option.{option_map_or}
 use Rattle.std.proofs.lemmas.Bool.{cases_Bool}
-use Rattle.std.proofs.lemmas.Option.{none-some, same_Some}
+use Rattle.std.proofs.lemmas.Option.{same_Some}
 use Rattle.bundle_model.specs.declared.bundle.Part.{Part}
 use Rattle.bundle_model.specs.declared.world.World.{World}
 use Rattle.bundle_model.specs.declared.world.LoadName.{LoadName}
 use Rattle.bundle_model.specs.declared.world.Grant.{Grant}
 use Rattle.bundle_model.specs.Grants.{stands_at}
 use Rattle.bundle_model.specs.World.{same_label}
-use Rattle.bundle_model.proofs.Laws.{AreKeyed}
 use Rattle.part_model.specs.Part.{PartState}
 use Rattle.tile_core.specs.Tile.{TileState}
 use Rattle.tile_core.specs.Slot.{installed, installed_if, installed_at, after_start}
 use Rattle.tile_core.specs.Views.{opening_view}
 use Rattle.tile_core.proofs.Standing.{AreLabelled, rest_apart}
 use Rattle.tile_core.proofs.Sites.{IsSite, site_part, IsGranted, loads_keyed}
-use Rattle.tile_core.proofs.Folding.{IsTile, tile_installed, is_of, touches, touches_more, touches_less, filter_in, filter_out, GoesOn, HaveParts, IsAt, at_place_of, not_of, is_of_own, none_of, of_load, other_load}
+use Rattle.tile_core.proofs.Folding.{IsTile, tile_installed, is_of, touches, touches_more, touches_less, filter_in, filter_out, GoesOn, HaveParts, at_place_of, not_of, is_of_own, none_of, of_load, other_load}
 use Rattle.tile_core.proofs.Rooms.{AreStanding, room_is}
 
 -- what is granted once some grants have begun

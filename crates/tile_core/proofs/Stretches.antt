@@ -1,6 +1,6 @@
 -- The cycles of a slot in three stretches: rows of the microkernel, cycles of the part that is held, and
 -- rows again.
-use Rattle.std.proofs.Common.{◌≡◌, ℕ, zero, suc, ◌+◌, ◌-◌, ◌*◌, ◌/◌, ◌%◌, ◌<◌, ◌≤◌, Bool, true, false, cond, nat_lt, List, [], ◌++◌, length, get_or, slice_get, slice_set, Option, Some, None, option_and_then, min, refl, sym, subst, ap, ap₂, ◌∙◌, inl, inr, arith}
+use Rattle.std.proofs.Common.{◌≡◌, ℕ, zero, suc, ◌+◌, ◌-◌, ◌*◌, ◌/◌, ◌%◌, ◌<◌, ◌≤◌, true, cond, nat_lt, List, [], ◌++◌, length, slice_get, Option, Some, None, min, refl, sym, subst, ap, ap₂, ◌∙◌, inl, inr, arith}
 use Rattle.std.proofs.lemmas.Bool.{cases_lt, lt-ltb, le-ltb}
 use Rattle.std.proofs.lemmas.List.{set-set, set-get_or, get_or-set_same}
 use Rattle.std.proofs.lemmas.Nat.{div-add-mod', div-mul-add, mod-mul-add, mod_below}
@@ -26,9 +26,8 @@ use Rattle.comik.specs.Places.{frame_place, IsPlace}
 use Rattle.comik.specs.Table.{kernel_row, kernel_rows, kernel_cycle}
 use Rattle.comik.proofs.Laws.{row_parts}
 use Rattle.tile_core.proofs.Portless.{portless_stretch}
-use Rattle.tile_core.specs.Tile.{TileState, place_at, log_at, load_part}
+use Rattle.tile_core.specs.Tile.{TileState, place_at, load_part}
 use Rattle.tile_core.specs.Cycle.{core_place, words_of, held_state, with_state, run_part, run_place, run_held, tile_cycle}
-use Rattle.tile_core.specs.Slot.{with_cycles}
 use Rattle.tile_core.specs.Fit.{IsMadeFor}
 use Rattle.tile_core.specs.inner.Stretch.{ran, ran_part, ran_place, ran_held}
 use Rattle.tile_core.proofs.Memory.{joined_region}

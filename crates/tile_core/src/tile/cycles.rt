@@ -6,6 +6,7 @@ ghost use Rattle.soc_base.specs.Time.{instance_cycles};
 ghost use Rattle.comik.specs.Places.{IsPlace};
 ghost use Rattle.comik.specs.Table.{kernel_rows};
 ghost use Rattle.tile_memory.specs.Bytes.{IsInside};
+ghost use Rattle.tile_mmio.specs.Ports.{AreOwn};
 ghost use Rattle.tile_core.specs.inner.Stretch.{ran_in, memory_ran};
 
 use super::Tile;
@@ -19,7 +20,7 @@ use tile_mmio::PartOnTile;
 use trace_log::PartLog;
 
 // Does `count` cycles of a part with these registers and cycles left.
-#[tactic(auto, using(crate::proofs::Memory::joined_region))]
+#[tactic(auto, using(crate::proofs::Memory::joined_region, crate::proofs::Portless::own_none, crate::proofs::Portless::ports_none))]
 fn run(
     costs: &Costs,
     part: &Part,

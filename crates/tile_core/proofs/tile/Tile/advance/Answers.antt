@@ -1,5 +1,3 @@
-use Rattle.std.proofs.Common.{ap, sym, ◌∙◌, arith}
-use Rattle.tile_core.specs.Tile.{TileState}
 use Rattle.tile_core.proofs.Ready.{settled_tile, settled_at}
 use Rattle.tile_core.proofs.tile.Tile.advance.Goals as goal
 
