@@ -6,6 +6,7 @@ pub mod Raws
 pub mod Flat
 pub mod Paths
 pub mod Ends
+pub mod ClaimPlaces
 pub mod Apart
 pub mod SlotSets
 pub mod Unbroken
@@ -15,4 +16,5 @@ pub mod Keyed
 pub mod Meeting
 pub mod Present
 pub mod Holders
+pub mod Channels
 pub mod Laws
