@@ -1,3 +1,5 @@
+pub mod Network
 pub mod App
+pub mod Slots
 pub mod Trace
 pub mod inner

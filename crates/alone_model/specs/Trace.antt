@@ -6,7 +6,8 @@ use Rattle.trace_log.specs.declared.row.TraceRow.{TraceRow}
 use Rattle.trace_log.specs.Rows.{row_cmp}
 use Rattle.alone_model.specs.declared.trace.PartTrace.{PartTrace}
 use Rattle.alone_model.specs.declared.trace.AppTrace.{AppTrace}
-use Rattle.alone_model.specs.App.{AppPart, AppState}
+use Rattle.alone_model.specs.Network.{AppPart}
+use Rattle.alone_model.specs.App.{AppState}
 
 -- the rows that the parts kept
 abbrev pub kept_rows : AppState → List TraceRow
