@@ -11,7 +11,7 @@ use crate::rules::ScriptFault;
 use soc_base::{Items, MOST_FILE_BYTES, NoMemory};
 use std::alloc::Global;
 
-/// AnswersMeaning a script of at most 4,194,304 bytes, where there is room for so many commands. Refuses with
+/// Reads a script of at most 4,194,304 bytes, where there is room for so many commands. Refuses with
 /// the first line that breaks a rule and the least rule that it breaks, or else where there are more
 /// commands than there is room for.
 #[tactic(auto, unfolding(crate::specs::Commands::script_meant))]
