@@ -1,3 +1,12 @@
+pub mod Twins
+pub mod Marks
+pub mod Claimed
+pub mod Early
+pub mod Raws
+pub mod Flat
+pub mod Paths
+pub mod Ends
+pub mod Apart
 pub mod SlotSets
 pub mod Unbroken
 pub mod Listing
