@@ -1,5 +1,5 @@
 -- What each line of a script means, and what a whole script is.
-use Rattle.std.specs.Prelude.{◌≡◌, ℕ, ◌+◌, Bool, ◌&&◌, ◌||◌, ◌==◌, nat_le, nat_lt, nat_eq, List, [], ◌∷◌, length, codes, slice_get, unwrap_or, if◌then◌else◌, Option, Some, None, Result, Ok, Err}
+use Rattle.std.specs.Prelude.{◌≡◌, ℕ, ◌+◌, ◌<◌, ◌≤◌, IsTrue, Bool, ◌&&◌, ◌||◌, ◌==◌, nat_le, nat_lt, nat_eq, List, [], ◌∷◌, length, codes, slice_get, unwrap_or, if◌then◌else◌, Option, Some, None, Result, Ok, Err}
 use Rattle.std.specs.List.{list_all, filter_map, starts_with}
 use Rattle.std.specs.Str.{bytes_eq}
 use Rattle.soc_base.specs.Text.{number_read}
@@ -82,6 +82,12 @@ command_of words =
     else if has_stop_shape words then stop_command_of (word_at words 1) (word_at words 3)
     else if has_until_shape words then until_command_of (word_at words 1)
     else Err S1
+
+-- what a command of a script states is in its range
+abbrev pub IsStated : Command → Type 0
+IsStated (Load name cycle) = IsTrue (is_name name) × (cycle ≤ LAST_STATED_CYCLE)
+IsStated (Stop load cycle) = (0 < load) × (load ≤ MOST_COMMANDS) × (cycle ≤ LAST_STATED_CYCLE)
+IsStated (Until cycle) = cycle ≤ LAST_STATED_CYCLE
 
 -- a blank line has no word, and a comment's first word begins with `#`
 abbrev pub is_remark : List (List ℕ) → Bool
