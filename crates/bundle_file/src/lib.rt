@@ -18,5 +18,9 @@ mod values;
 /// The laws of bundle files.
 mod verdicts;
 
+/// Bundle files, rule by rule.
+#[cfg(test)]
+mod tests;
+
 pub use reading::read_bundle;
 pub use verdicts::files_are_judged_once;

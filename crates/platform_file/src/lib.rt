@@ -11,5 +11,9 @@ mod reading;
 /// The laws of platform files.
 mod verdicts;
 
+/// Platform files, rule by rule.
+#[cfg(test)]
+mod tests;
+
 pub use reading::read_platform;
 pub use verdicts::files_are_judged_once;

@@ -1,3 +1,5 @@
 pub mod Names
 pub mod Words
 pub mod Reading
+pub mod Numbers
+pub mod Stated

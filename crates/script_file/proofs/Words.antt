@@ -11,4 +11,4 @@ five_tell (a ∷ b ∷ c ∷ []) = refl
 five_tell (a ∷ b ∷ c ∷ d ∷ []) = refl
 five_tell (a ∷ b ∷ c ∷ d ∷ e ∷ words) =
     let all = a ∷ b ∷ c ∷ d ∷ e ∷ words in
-    rw (ne_eqb (length all) 0 (omega arith), ne_eqb (length all) 4 (omega arith))
+    rw (ne_eqb (length all) 0 (omega arith), ne_eqb (length all) 4 (omega arith), ne_eqb (length all) 2 (omega arith))

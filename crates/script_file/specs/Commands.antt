@@ -1,12 +1,12 @@
 -- What each line of a script means, and what a whole script is.
-use Rattle.std.specs.Prelude.{◌≡◌, ℕ, ◌+◌, Bool, ◌&&◌, ◌||◌, ◌==◌, nat_le, nat_lt, nat_eq, List, [], ◌∷◌, length, codes, slice_get, unwrap_or, if◌then◌else◌, Option, Some, None, Result, Ok, Err}
+use Rattle.std.specs.Prelude.{◌≡◌, ℕ, ◌+◌, ◌<◌, ◌≤◌, IsTrue, Bool, ◌&&◌, ◌||◌, ◌==◌, nat_le, nat_lt, nat_eq, List, [], ◌∷◌, length, codes, slice_get, unwrap_or, if◌then◌else◌, Option, Some, None, Result, Ok, Err}
 use Rattle.std.specs.List.{list_all, filter_map, starts_with}
 use Rattle.std.specs.Str.{bytes_eq}
 use Rattle.soc_base.specs.Text.{number_read}
-use Rattle.soc_base.specs.declared.limits.TheConstants.{LAST_STATED_CYCLE}
+use Rattle.soc_base.specs.declared.limits.TheConstants.{LAST_STATED_CYCLE, MOST_COMMANDS}
 use Rattle.soc_base.specs.declared.number.NumFault.{NumFault}
 use Rattle.script_file.specs.declared.command.Command.{Command}
-use Rattle.script_file.specs.declared.command.Command.TheVariants.{Load}
+use Rattle.script_file.specs.declared.command.Command.TheVariants.{Load, Stop, Until}
 use Rattle.script_file.specs.declared.command.Script.{Script}
 use Rattle.script_file.specs.declared.rules.SRule.{SRule}
 use Rattle.script_file.specs.declared.rules.TheConstants.{MOST_NAME_BYTES}
@@ -38,6 +38,15 @@ abbrev pub has_load_shape : List (List ℕ) → Bool
 has_load_shape words =
     length words == 4 && bytes_eq (word_at words 0) (codes "load") && bytes_eq (word_at words 2) (codes "at")
 
+-- the words are `stop`, the number of a load command, `at` and a cycle
+abbrev pub has_stop_shape : List (List ℕ) → Bool
+has_stop_shape words =
+    length words == 4 && bytes_eq (word_at words 0) (codes "stop") && bytes_eq (word_at words 2) (codes "at")
+
+-- the words are `until` and a cycle
+abbrev pub has_until_shape : List (List ℕ) → Bool
+has_until_shape words = length words == 2 && bytes_eq (word_at words 0) (codes "until")
+
 -- the load of a name, once its cycle is read
 abbrev pub load_at : List ℕ → Result ℕ NumFault → Result (Option Command) SRule
 load_at name (Ok cycle) = Ok (Some (Load name cycle))
@@ -47,9 +56,38 @@ load_at name (Err fault) = Err S3
 abbrev pub load_command_of : List ℕ → List ℕ → Result (Option Command) SRule
 load_command_of name cycle = if is_name name then load_at name (number_read cycle LAST_STATED_CYCLE) else Err S2
 
--- the command of a line, or the least rule that it breaks. For now `load` is the one command.
+-- the stop of a load command, once its number and the cycle are read: load commands are numbered from 1
+abbrev pub stop_at : Result ℕ NumFault → Result ℕ NumFault → Result (Option Command) SRule
+stop_at (Ok load) (Ok cycle) = if nat_lt 0 load then Ok (Some (Stop load cycle)) else Err S3
+stop_at (Ok load) (Err fault) = Err S3
+stop_at (Err fault) cycle = Err S3
+
+-- the stop of the load command of a number at a cycle
+abbrev pub stop_command_of : List ℕ → List ℕ → Result (Option Command) SRule
+stop_command_of load cycle = stop_at (number_read load MOST_COMMANDS) (number_read cycle LAST_STATED_CYCLE)
+
+-- the promise of a session, once its cycle is read
+abbrev pub until_at : Result ℕ NumFault → Result (Option Command) SRule
+until_at (Ok cycle) = Ok (Some (Until cycle))
+until_at (Err fault) = Err S3
+
+-- the promise to ask for nothing before a cycle
+abbrev pub until_command_of : List ℕ → Result (Option Command) SRule
+until_command_of cycle = until_at (number_read cycle LAST_STATED_CYCLE)
+
+-- the command of a line, or the least rule that it breaks
 abbrev pub command_of : List (List ℕ) → Result (Option Command) SRule
-command_of words = if has_load_shape words then load_command_of (word_at words 1) (word_at words 3) else Err S1
+command_of words =
+    if has_load_shape words then load_command_of (word_at words 1) (word_at words 3)
+    else if has_stop_shape words then stop_command_of (word_at words 1) (word_at words 3)
+    else if has_until_shape words then until_command_of (word_at words 1)
+    else Err S1
+
+-- what a command of a script states is in its range
+abbrev pub IsStated : Command → Type 0
+IsStated (Load name cycle) = IsTrue (is_name name) × (cycle ≤ LAST_STATED_CYCLE)
+IsStated (Stop load cycle) = (0 < load) × (load ≤ MOST_COMMANDS) × (cycle ≤ LAST_STATED_CYCLE)
+IsStated (Until cycle) = cycle ≤ LAST_STATED_CYCLE
 
 -- a blank line has no word, and a comment's first word begins with `#`
 abbrev pub is_remark : List (List ℕ) → Bool

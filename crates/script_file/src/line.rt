@@ -1,15 +1,15 @@
 //! Judging one line.
 
-ghost use Rattle.std.specs.Prelude.{◌≡◌, map, take, IfOk, IsTrue};
+ghost use Rattle.std.specs.Prelude.{◌≡◌, [], ◌∷◌, map, take, IfOk, IsTrue};
 ghost use Rattle.std.specs.List.{list_all};
 ghost use Rattle.std.specs.Str.{bytes_eq};
 ghost use Rattle.std.specs.Str.Lines.{strip_carriage_return};
 ghost use Rattle.script_file.specs.Lines.{is_blank, words_of};
-ghost use Rattle.script_file.specs.Commands.{is_name, is_name_byte as is_byte_of_name, is_between as is_byte_between, line_meaning, load_command_of, words_meaning};
+ghost use Rattle.script_file.specs.Commands.{is_name, is_name_byte as is_byte_of_name, is_between as is_byte_between, line_meaning, command_of, load_command_of, stop_command_of, until_command_of, words_meaning};
 
 use crate::command::Command;
 use crate::rules::{MOST_NAME_BYTES, SRule};
-use soc_base::{LAST_STATED_CYCLE, NoMemory, Text, read_number};
+use soc_base::{LAST_STATED_CYCLE, MOST_COMMANDS, NoMemory, Text, read_number};
 use std::alloc::{AllocError, Global};
 
 /// How many words of a line are looked at: one more than the longest command has, so that a line with
@@ -59,11 +59,39 @@ fn judge_words(alloc: Global, words: &[&[u8]]) -> Result<Result<Option<Command>,
     match words {
         [] => Ok(Ok(None)),
         [first, ..] if first.starts_with(b"#") => Ok(Ok(None)),
-        [load, name, at, cycle] if is_word(load, "load") && is_word(at, "at") => {
-            load_command(alloc, name, cycle)
-        }
+        [key, what, at, cycle] => judge_four(alloc, key, what, at, cycle),
+        [key, cycle] => Ok(judge_two(key, cycle)),
         _ => Ok(Err(SRule::S1)),
     }
+}
+
+// The command of four words: a load or a stop.
+fn judge_four(
+    alloc: Global,
+    key: &[u8],
+    what: &[u8],
+    at: &[u8],
+    cycle: &[u8],
+) -> Result<Result<Option<Command>, SRule>, NoMemory>
+    ensures { let said = key.now ∷ what.now ∷ at.now ∷ cycle.now ∷ [] in IfOk result (λ meaning. meaning ≡ command_of said) }
+{
+    if is_word(key, "load") && is_word(at, "at") {
+        return load_command(alloc, what, cycle);
+    }
+    if is_word(key, "stop") && is_word(at, "at") {
+        return Ok(stop_command(what, cycle));
+    }
+    Ok(Err(SRule::S1))
+}
+
+// The command of two words: a promise.
+fn judge_two(key: &[u8], cycle: &[u8]) -> Result<Option<Command>, SRule>
+    ensures { result ≡ command_of (key.now ∷ cycle.now ∷ []) }
+{
+    if is_word(key, "until") {
+        return until_command(cycle);
+    }
+    Err(SRule::S1)
 }
 
 // Whether a word is this key word.
@@ -89,6 +117,33 @@ fn load_command(
     };
     let name = name_text(alloc, name)?;
     Ok(Ok(Some(Command::Load { name, cycle })))
+}
+
+// The command to stop what the load command of this number granted, at this cycle.
+fn stop_command(load: &[u8], cycle: &[u8]) -> Result<Option<Command>, SRule>
+    ensures { result ≡ stop_command_of load.now cycle.now }
+{
+    let Ok(load) = read_number(load, u64::from(MOST_COMMANDS)) else {
+        return Err(SRule::S3);
+    };
+    let Ok(cycle) = read_number(cycle, LAST_STATED_CYCLE) else {
+        return Err(SRule::S3);
+    };
+    if load == 0 {
+        return Err(SRule::S3);
+    }
+    let load = load as u16;
+    Ok(Some(Command::Stop { load, cycle }))
+}
+
+// The promise to ask for nothing before this cycle.
+fn until_command(cycle: &[u8]) -> Result<Option<Command>, SRule>
+    ensures { result ≡ until_command_of cycle.now }
+{
+    match read_number(cycle, LAST_STATED_CYCLE) {
+        Ok(cycle) => Ok(Some(Command::Until { cycle })),
+        Err(_) => Err(SRule::S3),
+    }
 }
 
 // Whether a word is the name of a bundle file.

@@ -1,8 +1,8 @@
 //! Reading a whole script.
 
-ghost use Rattle.std.specs.Prelude.{◌≡◌, ◌+◌, ◌<◌, ◌≤◌, ◌^◌, ◌-◌, [], length, OnOk};
+ghost use Rattle.std.specs.Prelude.{◌≡◌, ◌+◌, ◌<◌, ◌≤◌, ◌^◌, ◌-◌, [], length, All, IfOk, OnOk};
 ghost use Rattle.std.specs.List.{cons_option};
-ghost use Rattle.script_file.specs.Commands.{script_meant, AnswersMeaning};
+ghost use Rattle.script_file.specs.Commands.{script_meant, AnswersMeaning, IsStated};
 ghost use Rattle.script_file.specs.inner.Keeping.{kept_with};
 
 use crate::command::{Command, Script};
@@ -11,13 +11,15 @@ use crate::rules::ScriptFault;
 use soc_base::{Items, MOST_FILE_BYTES, NoMemory};
 use std::alloc::Global;
 
-/// AnswersMeaning a script of at most 4,194,304 bytes, where there is room for so many commands. Refuses with
+/// Reads a script of at most 4,194,304 bytes, where there is room for so many commands. Refuses with
 /// the first line that breaks a rule and the least rule that it breaks, or else where there are more
 /// commands than there is room for.
 #[tactic(auto, unfolding(crate::specs::Commands::script_meant))]
 pub fn read_script(alloc: Global, bytes: &[u8], room: u16) -> Result<Script, ScriptFault>
     requires { length bytes.now ≤ MOST_FILE_BYTES }
-    ensures { AnswersMeaning (script_meant bytes.now room) result }
+    ensures meaning { AnswersMeaning (script_meant bytes.now room) result }
+    ensures few { IfOk result (λ script. length script.commands ≤ room) }
+    ensures stated { IfOk result (λ script. All IsStated script.commands) }
 {
     let mut kept = Kept {
         commands: Items::new(alloc),

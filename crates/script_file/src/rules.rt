@@ -11,14 +11,15 @@ pub const MOST_NAME_BYTES: usize = 200;
 /// A rule that each line of a script keeps.
 #[derive(Clone, Copy, Debug, PartialEq, Eq, Error)]
 pub enum SRule {
-    /// The line has the shape of a command, with its key words in lower case. For now `load NAME at
-    /// CYCLE` is the one command.
+    /// The line has the shape of a command, with its key words in lower case: `load NAME at CYCLE`,
+    /// `stop J at CYCLE` or `until CYCLE`.
     #[error("a line has the shape of no command")]
     S1,
     /// NAME has at most 200 bytes, each a letter or a digit of ASCII, `.`, `_`, `-` or `/`.
     #[error("a name is too long or has a byte that names don't have")]
     S2,
-    /// CYCLE is decimal digits, with a value of at most 1,000,000,000,000.
+    /// CYCLE is decimal digits, with a value of at most 1,000,000,000,000, and J is decimal digits,
+    /// with a value from 1 to 256.
     #[error("a number is no decimal digits or out of range")]
     S3,
 }

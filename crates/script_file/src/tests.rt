@@ -11,14 +11,17 @@ fn read(alloc: Global, bytes: &[u8], room: u16) -> Result<Script, ScriptFault> {
     read_script(alloc, bytes, room)
 }
 
-/// The commands of a script as one text, `NAME@CYCLE` and a space for each.
+/// The commands of a script as one text: `NAME@CYCLE`, `-J@CYCLE` for a stop, `<CYCLE` for a promise,
+/// and a space after each.
 fn told(alloc: Global, script: &Script) -> Result<String, Fail> {
     let mut text = String::new(alloc);
     for command in script.commands.as_slice() {
-        if let Command::Load { name, cycle } = command {
-            let one = format!(in alloc; "{}@{} ", name.as_str(), cycle)?;
-            text.push_str(&one)?;
-        }
+        let one = match command {
+            Command::Load { name, cycle } => format!(in alloc; "{}@{} ", name.as_str(), cycle)?,
+            Command::Stop { load, cycle } => format!(in alloc; "-{}@{} ", load, cycle)?,
+            Command::Until { cycle } => format!(in alloc; "<{} ", cycle)?,
+        };
+        text.push_str(&one)?;
     }
     Ok(text)
 }
@@ -47,7 +50,7 @@ fn lines(alloc: Global, count: usize, last: &[u8]) -> Result<Vec<u8>, AllocError
 #[test]
 fn reads_commands(rt: HostRuntime) -> Result<(), Fail> {
     let alloc = rt.alloc();
-    let cases: [(&[u8], &str); 14] = [
+    let cases: [(&[u8], &str); 23] = [
         (b"", ""),
         (b"\n", ""),
         (b"\r\n\n", ""),
@@ -65,6 +68,18 @@ fn reads_commands(rt: HostRuntime) -> Result<(), Fail> {
         (b"load a at 0\n\n", "a@0 "),
         (b"load load at 9\nload at at 7", "load@9 at@7 "),
         (b"load a at 5\r\n\r\n# x\r\nload b at 4\r\n", "a@5 b@4 "),
+        (b"load stop at 1\nload until at 2", "stop@1 until@2 "),
+        (b"stop 1 at 0", "-1@0 "),
+        (b"stop 256 at 1000000000000\r\n", "-256@1000000000000 "),
+        (b"stop 0001 at 0", "-1@0 "),
+        (b" stop\t007  at \t 09\t\n", "-7@9 "),
+        (b"until 0", "<0 "),
+        (b"until 1000000000000\n", "<1000000000000 "),
+        (b"\tuntil\t0000005 \r\n", "<5 "),
+        (
+            b"load a at 5\nstop 1 at 9\n# x\nuntil 20\nstop 2 at 30\n",
+            "a@5 -1@9 <20 -2@30 ",
+        ),
     ];
     for (bytes, want) in cases {
         let script = read(alloc, bytes, 256)?;
@@ -76,7 +91,7 @@ fn reads_commands(rt: HostRuntime) -> Result<(), Fail> {
 
 #[test]
 fn refuses_the_first_line_that_breaks_a_rule(rt: HostRuntime) {
-    let cases: [(&[u8], u32, SRule); 33] = [
+    let cases: [(&[u8], u32, SRule); 66] = [
         (b"run a.toml at 5", 1, SRule::S1),
         (b"LOAD a.toml at 5", 1, SRule::S1),
         (b"load a.toml AT 5", 1, SRule::S1),
@@ -85,8 +100,24 @@ fn refuses_the_first_line_that_breaks_a_rule(rt: HostRuntime) {
         (b"load a.toml at 5 # note", 1, SRule::S1),
         (b"loada.toml at 5", 1, SRule::S1),
         (b"load a.toml\rat 5", 1, SRule::S1),
-        (b"until 5", 1, SRule::S1),
-        (b"stop 1 at 3", 1, SRule::S1),
+        (b"stop", 1, SRule::S1),
+        (b"stop 1", 1, SRule::S1),
+        (b"stop 1 at", 1, SRule::S1),
+        (b"stop 1 5", 1, SRule::S1),
+        (b"stop at 5", 1, SRule::S1),
+        (b"stop 1 on 5", 1, SRule::S1),
+        (b"stop 1 at 5 6", 1, SRule::S1),
+        (b"STOP 1 at 5", 1, SRule::S1),
+        (b"stop 1 At 5", 1, SRule::S1),
+        (b"stop1 at 5", 1, SRule::S1),
+        (b"stop x AT x", 1, SRule::S1),
+        (b"until", 1, SRule::S1),
+        (b"until 5 6", 1, SRule::S1),
+        (b"until 5 # note", 1, SRule::S1),
+        (b"until at 5", 1, SRule::S1),
+        (b"until 1 at 5", 1, SRule::S1),
+        (b"Until 5", 1, SRule::S1),
+        (b"until5", 1, SRule::S1),
         (b"\0load a.toml at 5", 1, SRule::S1),
         (b"\0", 1, SRule::S1),
         (b"\xc2\xa0", 1, SRule::S1),
@@ -99,6 +130,21 @@ fn refuses_the_first_line_that_breaks_a_rule(rt: HostRuntime) {
         (b"load a{b at 5", 1, SRule::S2),
         (b"load \xc3\xa9 at 5", 1, SRule::S2),
         (b"load a,b at x", 1, SRule::S2),
+        (b"stop 0 at 5", 1, SRule::S3),
+        (b"stop 000 at 5", 1, SRule::S3),
+        (b"stop 257 at 5", 1, SRule::S3),
+        (b"stop 65537 at 5", 1, SRule::S3),
+        (b"stop x at 5", 1, SRule::S3),
+        (b"stop -1 at 5", 1, SRule::S3),
+        (b"stop 1. at 5", 1, SRule::S3),
+        (b"stop 1 at x", 1, SRule::S3),
+        (b"stop 1 at 1000000000001", 1, SRule::S3),
+        (b"stop 1 at -1", 1, SRule::S3),
+        (b"until -1", 1, SRule::S3),
+        (b"until x", 1, SRule::S3),
+        (b"until 1000000000001", 1, SRule::S3),
+        (b"until 99999999999999999999999", 1, SRule::S3),
+        (b"until 5\r\r\n", 1, SRule::S3),
         (b"load a at 5\0", 1, SRule::S3),
         (b"load a at #5", 1, SRule::S3),
         (b"load a at -5", 1, SRule::S3),
@@ -110,6 +156,12 @@ fn refuses_the_first_line_that_breaks_a_rule(rt: HostRuntime) {
         (b"load a at 5\r\nrun\r\n", 2, SRule::S1),
         (b"\n\n# note\n  \t\nload a b 5", 5, SRule::S1),
         (b"load a at 5\nload b at 6\nload # at 7\nrun", 3, SRule::S2),
+        (
+            b"until 5\nstop 1 at 6\nuntil x\nload # at 5\nrun",
+            3,
+            SRule::S3,
+        ),
+        (b"stop 1 at 6\nload # at 5\nstop 0 at 5", 2, SRule::S2),
     ];
     for (bytes, number, rule) in cases {
         match read(rt.alloc(), bytes, 256) {
@@ -135,11 +187,20 @@ fn bounds_names(rt: HostRuntime) -> Result<(), Fail> {
 
 #[test]
 fn bounds_commands(rt: HostRuntime) -> Result<(), Fail> {
-    let cases: [(usize, &[u8], u16, Option<ScriptFault>); 8] = [
+    let cases: [(usize, &[u8], u16, Option<ScriptFault>); 12] = [
         (256, b"", 256, None),
         (256, b"# note\n\n", 256, None),
         (257, b"", 256, Some(ScriptFault::TooMany)),
         (257, b"run", 256, Some(ScriptFault::Line(258, SRule::S1))),
+        (255, b"until 5", 256, None),
+        (256, b"stop 1 at 5", 256, Some(ScriptFault::TooMany)),
+        (256, b"until 5", 256, Some(ScriptFault::TooMany)),
+        (
+            256,
+            b"until 5\nstop 257 at 5",
+            256,
+            Some(ScriptFault::Line(258, SRule::S3)),
+        ),
         (0, b"", 0, None),
         (0, b"# note", 0, None),
         (1, b"", 0, Some(ScriptFault::TooMany)),
