@@ -10,7 +10,7 @@ use Rattle.bundle_model.specs.declared.world.World.{World}
 use Rattle.bundle_model.specs.declared.world.Grant.{Grant}
 use Rattle.soc_base.specs.Slots.{slots_of}
 use Rattle.bundle_model.specs.Grants.{bundle_at}
-use Rattle.bundle_model.specs.World.{part_on}
+use Rattle.bundle_model.specs.World.{IsSoundCatalog, part_on}
 use Rattle.bundle_model.specs.Ways.{pair_ways, ways_of}
 use Rattle.ni_port.specs.SizedPort.{SizedPort, granted_sized}
 use Rattle.tile_core.specs.Cycle.{core_place}
@@ -19,7 +19,7 @@ use Rattle.part_model.specs.Part.{PartState, part_cycle}
 use Rattle.alone_model.specs.Network.{AppPart, Flying, each_port, with_ports, injected, new_flits, delivered}
 use Rattle.alone_model.specs.App.{AppState, place_of, opening_part, opening, part_step, with_new, with_cycle, with_due, app_cycle, alone_at}
 use Rattle.event_core.specs.Stands.{alone_part}
-use Rattle.bundle_model.proofs.Laws.{find_map}
+use Rattle.bundle_model.proofs.Laws.{find_map, sound_bundle, no_pairs, no_ports}
 use Rattle.event_core.proofs.Runs.{opening_state, state_step, part_run, first_cycle}
 
 pub map_over : {X Y Z : Type 0} (f : Y → Z) (g : X → Y) (h : X → Z) (xs : List X) → ((k : ℕ) (x : X) → slice_get xs k ≡ Some x → f (g x) ≡ h x) → map f (map g xs) ≡ map h xs
@@ -153,6 +153,6 @@ pub unjoined_bundles : (world : World) → IsSoundCatalog world → world.platfo
 unjoined_bundles world sound one place bundle at =
     let formed = sound_bundle world place bundle sound at in
     record {
-      pairs = one_tile_pairs world.platform bundle formed one;
-      ports = λ k part there. one_tile_ports world.platform bundle formed one k part there;
+      pairs = no_pairs world.platform bundle one formed;
+      ports = λ k part there. no_ports world.platform bundle k part one formed there;
     }
