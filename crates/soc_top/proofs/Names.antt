@@ -1,16 +1,19 @@
--- The bundle files that a script names, one command after another.
-use Rattle.std.proofs.Common.{◌≡◌, ℕ, ◌+◌, ◌≤◌, Bool, true, false, cond, ◌||◌, List, [], ◌∷◌, ◌++◌, length, length-append, fold, take, Option, Some, None, All, refl, ap, ◌∙◌, arith}
+-- The bundle files that commands name, one command after another, and the scripts that words name.
+use Rattle.std.proofs.Common.{◌≡◌, ℕ, ◌+◌, ◌<◌, ◌≤◌, Bool, true, false, cond, ◌||◌, List, [], ◌∷◌, ◌++◌, length, length-append, fold, take, drop, get_or, slice_get, Option, Some, None, All, refl, sym, ap, ◌∙◌, arith}
 use Rattle.std.specs.List.{cons_option}
 use Rattle.std.specs.Str.{bytes_eq}
 use Rattle.std.proofs.lemmas.Slice.Eq.{bytes_eq-Decides}
-use Rattle.std.proofs.lemmas.List.{take_all}
+use Rattle.std.proofs.lemmas.List.{append_assoc, take_all, drop_more, length-drop}
+use Rattle.std.proofs.lemmas.Option.{slice_get_within, get_or_from_slice_get}
+use Rattle.soc_base.specs.declared.limits.TheConstants.{MOST_SCRIPTS}
 use Rattle.std.proofs.lemmas.List.Folds.{list_any-append}
 use Rattle.std.proofs.lemmas.List.Elements.{All-nil, All-cons}
 use Rattle.bundle_model.specs.Sets.{names}
 use Rattle.script_file.specs.declared.command.Command.{Command}
+use Rattle.script_file.specs.declared.command.Script.{Script}
 use Rattle.vep_manager.specs.Loads.{loaded_name, loaded_names}
-use Rattle.soc_top.specs.Setups.{with_name, bundle_names}
-use Rattle.soc_top.specs.inner.Naming.{with_loaded, with_command}
+use Rattle.soc_top.specs.Run.{with_name, bundle_names}
+use Rattle.soc_top.specs.inner.Naming.{with_loaded, with_command, all_commands}
 
 -- naming one command after another names each name once
 named_then : (known : List (List ℕ)) (found : Option (List ℕ)) (later : List (List ℕ))
@@ -24,10 +27,11 @@ named_from known [] = refl
 named_from known (command ∷ commands) =
     named_from (with_command known command) commands ∙ named_then known (loaded_name command) (loaded_names commands)
 
-pub named_end : (commands items : List Command) (i : ℕ) (known : List (List ℕ)) → items ≡ commands → length items ≤ i
-    → known ≡ fold with_command [] (take i items) → known ≡ bundle_names commands
-named_end commands items i known same whole is =
-    is ∙ ap (fold with_command []) (take_all i items whole ∙ same) ∙ named_from [] commands
+pub named_end : (scripts : List Script) (i : ℕ) (known : List (List ℕ)) → length scripts ≤ i
+    → known ≡ fold with_command [] (all_commands (take i scripts)) → known ≡ bundle_names (all_commands scripts)
+named_end scripts i known whole is =
+    is ∙ ap (λ some. fold with_command [] (all_commands some)) (take_all i scripts whole)
+    ∙ named_from [] (all_commands scripts)
 
 -- no more names than commands
 few_with : (b : Bool) (known : List (List ℕ)) (name : List ℕ)
@@ -94,3 +98,24 @@ named_among known (name ∷ all) =
     All-cons (λ other. names (fold with_name (with_name known name) all) other ≡ true) name all
     (kept_from (with_name known name) all name (added_with (names known name) known name refl))
     (named_among (with_name known name) all)
+
+pub few_scripts : (words : List (List ℕ)) → 4 ≤ length words → length words ≤ 3 + MOST_SCRIPTS
+    → (0 < length (drop 3 words)) × (length (drop 3 words) ≤ MOST_SCRIPTS)
+few_scripts words some few =
+    let rest = length-drop 3 words in
+    (omega (arith, rest), omega (arith, rest))
+
+-- the name of a script goes from the words that are left to the names
+pub word_moved : (words : List (List ℕ)) (n : ℕ) (names new : List (List ℕ)) (text word : List ℕ)
+    → names ++ drop n words ≡ drop 3 words → slice_get words n ≡ Some word → new ≡ names ++ text ∷ [] → text ≡ word
+    → (new ++ drop (n + 1) words ≡ drop 3 words) × (n + 1 ≤ length words)
+word_moved words n names new text word so_far is appended same =
+    let inside : n < length words = slice_get_within words n word is in
+    let here : get_or words n word ≡ word = get_or_from_slice_get words n word word is in
+    let split : drop n words ≡ text ∷ drop (n + 1) words =
+    drop_more words n word inside ∙ ap (λ w. w ∷ drop (n + 1) words) (here ∙ sym same) in
+    (
+      ap (λ some. some ++ drop (n + 1) words) appended ∙ append_assoc names (text ∷ []) (drop (n + 1) words)
+          ∙ ap (λ rest. names ++ rest) (sym split) ∙ so_far,
+      omega (arith, inside),
+    )

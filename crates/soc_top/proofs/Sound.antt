@@ -1,23 +1,23 @@
--- A setup with one script is sound.
-use Rattle.std.proofs.Common.{◌≡◌, ◌*◌, ◌≤◌, [], ◌∷◌, length, All, arith}
-use Rattle.std.proofs.lemmas.List.Elements.{All-nil, All-cons}
-use Rattle.soc_base.specs.declared.limits.TheConstants.{LAST_CYCLE, MOST_COMMANDS}
+-- A setup is sound.
+use Rattle.std.proofs.Common.{◌≡◌, ◌*◌, ◌<◌, ◌≤◌, List, length, All, sym, arith}
+use Rattle.std.proofs.lemmas.List.Concat.{length-flat_map}
+use Rattle.soc_base.specs.declared.limits.TheConstants.{LAST_CYCLE, MOST_COMMANDS, MOST_SCRIPTS}
 use Rattle.bundle_model.specs.World.{IsSoundCatalog}
 use Rattle.script_file.specs.declared.command.Script.{Script}
 use Rattle.vep_manager.specs.declared.setup.Setup.{Setup}
-use Rattle.vep_manager.specs.Setup.{IsSound, stated_cycle}
+use Rattle.vep_manager.specs.Setup.{IsSound}
+use Rattle.soc_top.specs.inner.Naming.{all_commands, InTime}
 
-abbrev InTime : Script → Type 0
-InTime script = All (λ command. stated_cycle command ≤ LAST_CYCLE) script.commands
-
-pub sound_setup : (setup : Setup) (script : Script) → IsSoundCatalog setup.world → setup.scripts ≡ script ∷ []
-    → length script.commands ≤ MOST_COMMANDS → All (λ command. stated_cycle command ≤ LAST_CYCLE) script.commands
-    → setup.budget * setup.world.platform.slot_cycles ≤ LAST_CYCLE → IsSound setup
-sound_setup setup script catalog one few cycles budget = record {
-  catalog = catalog;
-  some_script = rw one (omega arith);
-  few_scripts = rw one (omega arith);
-  few_commands = rw one (omega arith);
-  cycles = rw one (All-cons InTime script [] cycles (All-nil InTime));
-  budget = budget;
-}
+pub sound_setup : (setup : Setup) (scripts : List Script) → IsSoundCatalog setup.world → setup.scripts ≡ scripts
+    → 0 < length scripts → length scripts ≤ MOST_SCRIPTS → length (all_commands scripts) ≤ MOST_COMMANDS
+    → All InTime scripts → setup.budget * setup.world.platform.slot_cycles ≤ LAST_CYCLE → IsSound setup
+sound_setup setup scripts catalog are some most few cycles budget =
+    let sum = length-flat_map (λ (s : Script). s.commands) scripts in
+    record {
+      catalog = catalog;
+      some_script = rw are some;
+      few_scripts = rw are most;
+      few_commands = rw (are, sym sum) few;
+      cycles = rw are cycles;
+      budget = budget;
+    }

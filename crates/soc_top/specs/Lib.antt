@@ -1,8 +1,9 @@
 pub mod Request
-pub mod Files
-pub mod Exchange
-pub mod Alone
+pub mod Wants
+pub mod Order
 pub mod Faults
-pub mod Setups
+pub mod Exchange
+pub mod Answers
+pub mod Alone
 pub mod Run
 pub mod inner

@@ -1,7 +1,7 @@
 -- What the words of a command line ask for.
-use Rattle.std.specs.Prelude.{ℕ, ◌≤◌, ◌&&◌, ◌==◌, List, codes, length, unwrap_or, slice_get, if◌then◌else◌, Option, Some, None, Result, Ok, Err}
+use Rattle.std.specs.Prelude.{ℕ, ◌+◌, ◌<◌, ◌≤◌, ◌&&◌, ◌==◌, nat_le, List, codes, length, drop, if◌then◌else◌, Option, Some, None, Result, Ok, Err}
 use Rattle.std.specs.Str.{bytes_eq}
-use Rattle.soc_base.specs.declared.limits.TheConstants.{LAST_STATED_CYCLE}
+use Rattle.soc_base.specs.declared.limits.TheConstants.{LAST_STATED_CYCLE, MOST_SCRIPTS}
 use Rattle.soc_base.specs.declared.number.NumFault.{NumFault}
 use Rattle.soc_base.specs.Text.{number_read}
 use Rattle.script_file.specs.Commands.{word_at}
@@ -22,26 +22,26 @@ alone_of platform bundle (Ok start) (Err fault) = None
 alone_of platform bundle (Err fault) budget = None
 
 -- the `run` of these words, where the cycle could be read
-abbrev pub run_of : List ℕ → Result ℕ NumFault → List ℕ → Option Request
-run_of platform (Ok budget) script = Some (Run (record { platform = platform; budget = budget; script = script }))
-run_of platform (Err fault) script = None
+abbrev pub run_of : List ℕ → Result ℕ NumFault → List (List ℕ) → Option Request
+run_of platform (Ok budget) scripts = Some (Run (record { platform = platform; budget = budget; scripts = scripts }))
+run_of platform (Err fault) scripts = None
 
 -- what five words ask for of which the first is `alone`
 abbrev pub alone_asked : List (List ℕ) → Option Request
 alone_asked words = alone_of (word_at words 1) (word_at words 2) (cycles_of (word_at words 3))
     (cycles_of (word_at words 4))
 
--- what four words ask for of which the first is `run`
+-- what words ask for of which the first is `run`, and the fourth and those after it name scripts
 abbrev pub run_asked : List (List ℕ) → Option Request
-run_asked words = run_of (word_at words 1) (cycles_of (word_at words 2)) (word_at words 3)
+run_asked words = run_of (word_at words 1) (cycles_of (word_at words 2)) (drop 3 words)
 
 -- what the words ask for, if they are those of a command: `alone PLATFORM BUNDLE START BUDGET` or
--- `run PLATFORM BUDGET SCRIPT`
+-- `run PLATFORM BUDGET SCRIPT...` with 1 to 16 scripts
 unfoldable pub asked_of : List (List ℕ) → Option Request
 asked_of words =
     if length words == 5 && bytes_eq (word_at words 0) (codes "alone")
     then alone_asked words
-    else (if length words == 4 && bytes_eq (word_at words 0) (codes "run")
+    else (if nat_le 4 (length words) && nat_le (length words) (3 + MOST_SCRIPTS) && bytes_eq (word_at words 0) (codes "run")
     then run_asked words
     else None)
 
@@ -51,7 +51,8 @@ IsInForm request = (request.start ≤ LAST_STATED_CYCLE) × (request.budget ≤ 
 
 -- likewise a request to run
 abbrev pub IsRunInForm : RunWords → Type 0
-IsRunInForm request = request.budget ≤ LAST_STATED_CYCLE
+IsRunInForm request =
+    (request.budget ≤ LAST_STATED_CYCLE) × (0 < length request.scripts) × (length request.scripts ≤ MOST_SCRIPTS)
 
 -- whichever of the two it is
 abbrev pub AreInForm : Request → Type 0

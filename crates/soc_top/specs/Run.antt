@@ -1,64 +1,91 @@
--- The command `run`: what it writes, and in which order it is decided.
-use Rattle.std.specs.Prelude.{◌≡◌, ℕ, ◌⊎◌, List, Option, Some, None}
-use Rattle.soc_io.specs.Counts.{Rose}
+-- The command `run`: which files it reads, the setup that they give, and what it writes.
+use Rattle.std.specs.Prelude.{◌≡◌, ℕ, ◌-◌, List, [], ◌∷◌, ◌++◌, length, map, fold, if◌then◌else◌, Some, Option}
+use Rattle.soc_base.specs.declared.limits.TheConstants.{MOST_COMMANDS}
+use Rattle.soc_base.specs.Time.{slot_up_of}
 use Rattle.soc_io.specs.Reading.{Held}
-use Rattle.soc_io.specs.Writing.{Appends, AppendsFront}
-use Rattle.platform_model.specs.declared.rules.PRule.{PRule}
-use Rattle.script_file.specs.declared.rules.ScriptFault.{ScriptFault}
+use Rattle.platform_model.specs.declared.platform.Platform.{Platform}
+use Rattle.bundle_model.specs.Sets.{names}
+use Rattle.script_file.specs.declared.command.Command.{Command}
 use Rattle.vep_manager.specs.declared.setup.Setup.{Setup}
 use Rattle.vep_manager.specs.declared.reply.Entry.{Entry}
 use Rattle.vep_manager.specs.Legal.{IsRoundRobin}
+use Rattle.vep_manager.specs.Loads.{loaded_names}
 use Rattle.report_text.specs.Report.{IsReport}
 use Rattle.soc_top.specs.declared.request.RunWords.{RunWords}
-use Rattle.soc_top.specs.declared.fault.TopFault.{TopFault}
-use Rattle.soc_top.specs.declared.fault.TopFault.TheVariants.{Platform, ScriptTooLong, Script, Absent, Read, NoMemory}
 use Rattle.soc_top.specs.declared.request.Request.TheVariants.{Run}
 use Rattle.soc_top.specs.Request.{asked_of}
-use Rattle.soc_top.specs.Exchange.{Exchange, Says}
-use Rattle.soc_top.specs.Faults.{fault_line, fault_status}
-use Rattle.soc_top.specs.Setups.{GivesSetup, RunFault, IsDecidedFault, AllowsRun}
+use Rattle.soc_top.specs.Exchange.{Exchange}
+use Rattle.soc_top.specs.Wants.{Input}
+use Rattle.soc_top.specs.Wants.Want.{OneTileWant, ScriptWant, JudgedWant}
+use Rattle.soc_top.specs.Wants.Input.{PlatformRead, ScriptRead, BundleRead}
+use Rattle.soc_top.specs.Order.{Order, AreRead}
+use Rattle.soc_top.specs.Order.Order.{Next, Whole}
+use Rattle.soc_top.specs.Answers.{Answers}
+
+-- the names with one more, unless it is among them
+abbrev pub with_name : List (List ℕ) → List ℕ → List (List ℕ)
+with_name known name = if names known name then known else known ++ name ∷ []
+
+-- the bundle files that commands name, each once, in the order of their first naming
+abbrev pub bundle_names : List Command → List (List ℕ)
+bundle_names commands = fold with_name [] (loaded_names commands)
+
+-- bundle files, one after another; one that breaks a rule is judged so, and refuses nothing
+abbrev pub bundles_order : Platform → List (List ℕ) → Order
+bundles_order platform [] = Whole
+bundles_order platform (name ∷ names) = Next (JudgedWant platform name) (λ bundle. bundles_order platform names)
+
+-- the commands of a script that was read
+abbrev pub commands_in : Input → List Command
+commands_in (PlatformRead platform) = []
+commands_in (ScriptRead script) = script.commands
+commands_in (BundleRead named) = []
+
+-- the scripts of these names after others with these commands, each with room for what those before it
+-- leave of 256 commands, and then the bundle files that all of them name
+abbrev pub scripts_order : Platform → List (List ℕ) → List Command → Order
+scripts_order platform [] commands = bundles_order platform (bundle_names commands)
+scripts_order platform (name ∷ names) commands = Next (ScriptWant name (MOST_COMMANDS - length commands))
+    (λ script. scripts_order platform names (commands ++ commands_in script))
+
+-- after the platform, the scripts
+abbrev pub after_platform : RunWords → Input → Order
+after_platform request (PlatformRead platform) = scripts_order platform request.scripts []
+after_platform request (ScriptRead script) = Whole
+after_platform request (BundleRead named) = Whole
+
+-- the platform is read and judged first, which for now has one tile; then each script; then each bundle
+abbrev pub run_order : RunWords → Order
+run_order request = Next (OneTileWant request.platform) (after_platform request)
+
+-- what the files of a setup gave: its platform, the scripts of its sessions in order, its bundle files
+abbrev pub inputs_of : Setup → List Input
+inputs_of setup =
+    PlatformRead setup.world.platform ∷ (map ScriptRead setup.scripts ++ map BundleRead setup.world.catalog)
+
+-- the run of a setup ends at the slot granted for the budget
+abbrev pub EndsAt : RunWords → Setup → Type 0
+EndsAt request setup = setup.budget ≡ slot_up_of request.budget setup.world.platform.slot_cycles
+
+-- all files of a request were read, and this is its setup
+abbrev pub GivesSetup : Option Held → RunWords → Setup → Type 0
+GivesSetup told request setup =
+    AreRead told (run_order request) (inputs_of setup) × EndsAt request setup
 
 -- the text is the report of the legal history of all commands of a setup, each application's rows and
 -- parts being the trace that it has alone
 abbrev pub IsReportOf : Setup → List ℕ → Type 0
 IsReportOf setup text = (history : List Entry) × IsRoundRobin setup history × IsReport setup history text
 
--- where files are told, the setup is the one that their bytes give
-abbrev pub ReportOf : Option Held → RunWords → List ℕ → Type 0
-ReportOf (Some held) request text = (setup : Setup) × GivesSetup held request setup × IsReportOf setup text
-ReportOf None request text = Unit {0}
+-- the report, by what the files gave: a setup, of which its own type says what its loads are
+abbrev pub RunTexts : RunWords → List Input → List ℕ → Type 0
+RunTexts request inputs text =
+    (setup : Setup) × (inputs ≡ inputs_of setup) × EndsAt request setup × IsReportOf setup text
 
--- the request is refused for this cause and with this line
-abbrev pub RefusesRun : Exchange → RunWords → TopFault → Type 0
-RefusesRun e request fault = RunFault e.held e.read_faults e.read_faults_now request fault × Says e (fault_line fault)
+-- how a request to run may end with a status
+abbrev pub RunAnswers : Exchange → RunWords → ℕ → Type 0
+RunAnswers e request status = Answers e (run_order request) (RunTexts request) status
 
--- how the request may end with a status
-pub record RunAnswers (e : Exchange) (request : RunWords) (status : ℕ) : Type 0 where
-  -- these statuses come and no other
-  pub statuses : (status ≡ 0) ⊎ ((status ≡ 6) ⊎ ((fault : TopFault) × (status ≡ fault_status fault)))
-  -- 0: the report was written
-  pub done : status ≡ 0 → (text : List ℕ) × ReportOf e.held request text × Appends e.written text e.written_now
-  -- 2: the platform file breaks this rule
-  pub platform : status ≡ 2 → (rule : PRule) × RefusesRun e request (Platform rule)
-  -- 3: the script is too long or has this fault
-  pub script : status ≡ 3
-      → (name : List ℕ) × (RefusesRun e request (ScriptTooLong name) ⊎ ((fault : ScriptFault)
-      × RefusesRun e request (Script name fault)))
-  -- 4: a file isn't there; 5: a file could not be read
-  pub absent : status ≡ 4 → (name : List ℕ) × RefusesRun e request (Absent name)
-  pub unread : status ≡ 5 → (name : List ℕ) × RefusesRun e request (Read name)
-  -- 6: a write of the report failed, and a front of it was written
-  pub unwritten : status ≡ 6 → Rose e.write_faults e.write_faults_now
-  pub front : status ≡ 6 → (text : List ℕ) × ReportOf e.held request text × AppendsFront e.written text e.written_now
-  -- 7: want of memory
-  pub memory : status ≡ 7 → RefusesRun e request NoMemory
-  -- what the files refuse is refused, where no read fails
-  pub decided : (held : Held) (fault : TopFault) → e.held ≡ Some held → (Rose e.read_faults e.read_faults_now → ⊥)
-      → IsDecidedFault held request fault → (status ≡ fault_status fault) ⊎ (status ≡ 7)
-  -- and what they allow is done, where no write fails either
-  pub complete : (held : Held) → e.held ≡ Some held → (Rose e.read_faults e.read_faults_now → ⊥)
-      → (Rose e.write_faults e.write_faults_now → ⊥) → AllowsRun held request → (status ≡ 0) ⊎ (status ≡ 7)
-
--- a status is what a request to run may end with, where the words ask for one
+-- the same, where the words ask for one
 abbrev pub AnswersRun : Exchange → List (List ℕ) → ℕ → Type 0
 AnswersRun e words status = (request : RunWords) → asked_of words ≡ Some (Run request) → RunAnswers e request status

@@ -4,8 +4,9 @@ ghost use Rattle.std.specs.Prelude.{◌≡◌, ◌*◌, ◌≤◌};
 ghost use Rattle.bundle_model.specs.WellFormed.{IsWellFormed};
 ghost use Rattle.soc_top.specs.Request.{IsInForm};
 ghost use Rattle.soc_top.specs.Exchange.{exchanged};
-ghost use Rattle.soc_top.specs.Alone.{first_slot, last_slot, AloneAnswers};
-ghost use Rattle.soc_top.specs.inner.AloneEnds.{Ends, Runs};
+ghost use Rattle.soc_top.specs.Alone.{alone_order, first_slot, last_slot, IsAloneText, AloneTexts, AloneAnswers};
+ghost use Rattle.soc_top.specs.Answers.{Ends};
+ghost use Rattle.soc_top.specs.inner.Ends.{Concludes};
 
 use crate::ending::{Ending, code, refuse};
 use crate::fault::TopFault;
@@ -36,7 +37,7 @@ fn run<S: Sink>(alloc: Global, request: &AloneWords, inputs: &Inputs, sink: &mut
     requires in_form { IsInForm request.now }
     requires well_formed { IsWellFormed inputs.now.platform inputs.now.bundle }
     ensures counted { S.faults sink.old ≤ S.faults sink.new }
-    ensures runs { Runs (S.written sink.old) (S.faults sink.old) (S.written sink.new) (S.faults sink.new) inputs.now request.now result }
+    ensures concludes { Concludes (IsAloneText request.now inputs.now.platform inputs.now.bundle) (S.written sink.old) (S.faults sink.old) (S.written sink.new) (S.faults sink.new) result }
 {
     let (start, end) = span(&inputs.platform, request);
     let Ok(trace) = alone(alloc, &inputs.platform, &inputs.bundle, start, end) else {
@@ -56,7 +57,6 @@ fn run<S: Sink>(alloc: Global, request: &AloneWords, inputs: &Inputs, sink: &mut
 }
 
 // How a request ends: its files are read and judged, its application runs, its text is written.
-#[tactic(auto, using(crate::proofs::Causes::ended))]
 fn end<F: Files, S: Sink>(
     alloc: Global,
     request: &AloneWords,
@@ -64,7 +64,7 @@ fn end<F: Files, S: Sink>(
     sink: &mut S,
 ) -> Ending
     requires { IsInForm request.now }
-    ensures { Ends (exchanged F.holds F.faults S.written S.faults files.old files.new sink.old sink.new) request.now result }
+    ensures { Ends (exchanged F.holds F.faults S.written S.faults files.old files.new sink.old sink.new) (alone_order request.now) (AloneTexts request.now) result }
 {
     match load(alloc, request, files) {
         Ok(inputs) => run(alloc, request, &inputs, sink),

@@ -1,17 +1,18 @@
 //! Reading and judging one file of a request.
 
-ghost use Rattle.std.specs.Prelude.{◌≡◌, ◌≤◌, length, All, IfOk};
+ghost use Rattle.std.specs.Prelude.{◌≡◌, ◌≤◌, Ok, IfOk, IfErr};
 ghost use Rattle.bundle_model.specs.WellFormed.{IsWellFormed};
-ghost use Rattle.vep_manager.specs.Setup.{stated_cycle};
-ghost use Rattle.soc_top.specs.inner.Loading.{ReadsFile, ReadsPlatform, JudgesScript, ReadsScript, ReadsBundle};
+ghost use Rattle.soc_top.specs.Wants.{Gives, Refuses};
+ghost use Rattle.soc_top.specs.Wants.Want.{PlatformWant, OneTileWant, BundleWant, JudgedWant};
+ghost use Rattle.soc_top.specs.Wants.Input.{PlatformRead, BundleRead};
+ghost use Rattle.soc_top.specs.inner.Loading.{HasContent, Misses};
 
 use crate::fault::TopFault;
 use bundle_file::read_bundle;
-use bundle_model::{BRule, BundleFault, Named};
+use bundle_model::{BRule, Bundle, BundleFault, Named};
 use platform_file::read_platform;
 use platform_model::{PRule, Platform, PlatformFault};
-use script_file::{Script, ScriptFault, read_script};
-use soc_base::{Items, LAST_CYCLE, MOST_COMMANDS, MOST_FILE_BYTES, NoMemory, Text};
+use soc_base::{Items, NoMemory, Text};
 use soc_io::{Files, FilesFault};
 use std::alloc::Global;
 
@@ -35,7 +36,8 @@ pub fn copied(alloc: Global, name: &Text) -> Result<Text, NoMemory>
 pub fn read_file<F: Files>(alloc: Global, name: &Text, files: &mut F) -> Result<Content, TopFault>
     ensures same { F.holds files.new ≡ F.holds files.old }
     ensures counted { F.faults files.old ≤ F.faults files.new }
-    ensures reads { ReadsFile (F.holds files.old) (F.faults files.old) (F.faults files.new) name.now result }
+    ensures content { IfOk result (HasContent (F.holds files.old) (F.faults files.old) (F.faults files.new) name.now) }
+    ensures missed { IfErr result (Misses (F.holds files.old) (F.faults files.old) (F.faults files.new) name.now) }
 {
     let mut bytes = Vec::new(alloc);
     match files.read(alloc, name.as_str(), &mut bytes) {
@@ -48,7 +50,7 @@ pub fn read_file<F: Files>(alloc: Global, name: &Text, files: &mut F) -> Result<
 }
 
 /// Reads and judges a platform file. A file that is too long breaks rule P1.
-#[tactic(auto, using(crate::proofs::Causes::long_platform))]
+#[tactic(auto, using(crate::proofs::Missing::missed, crate::proofs::Missing::long_platform))]
 pub fn load_platform<F: Files>(
     alloc: Global,
     name: &Text,
@@ -56,7 +58,8 @@ pub fn load_platform<F: Files>(
 ) -> Result<Platform, TopFault>
     ensures same { F.holds files.new ≡ F.holds files.old }
     ensures counted { F.faults files.old ≤ F.faults files.new }
-    ensures reads { ReadsPlatform (F.holds files.old) (F.faults files.old) (F.faults files.new) name.now result }
+    ensures gives { IfOk result (λ platform. Gives (F.holds files.old) (PlatformWant name.now) (PlatformRead platform)) }
+    ensures refused { IfErr result (Refuses (F.holds files.old) (F.faults files.old) (F.faults files.new) (PlatformWant name.now)) }
 {
     match read_file(alloc, name, files)? {
         Content::Whole(bytes) => match read_platform(alloc, bytes.as_slice()) {
@@ -68,49 +71,46 @@ pub fn load_platform<F: Files>(
     }
 }
 
-// Judges the bytes of a script of a name.
-#[tactic(auto, using(crate::proofs::Scripts::few_meant, crate::proofs::Scripts::cycles_meant))]
-fn judge_script(alloc: Global, name: &Text, bytes: &[u8]) -> Result<Script, TopFault>
-    requires { length bytes.now ≤ MOST_FILE_BYTES }
-    ensures judges { JudgesScript name.now bytes.now result }
-    ensures few { IfOk result (λ script. length script.commands ≤ MOST_COMMANDS) }
-    ensures cycles { IfOk result (λ script. All (λ command. stated_cycle command ≤ LAST_CYCLE) script.commands) }
-{
-    match read_script(alloc, bytes, MOST_COMMANDS) {
-        Ok(script) => Ok(script),
-        Err(ScriptFault::NoMemory) => Err(TopFault::NoMemory),
-        Err(fault) => Err(TopFault::Script(copied(alloc, name)?, fault)),
-    }
-}
-
-/// Reads and judges a script.
-pub fn load_script<F: Files>(alloc: Global, name: &Text, files: &mut F) -> Result<Script, TopFault>
+/// Reads and judges a platform file, and refuses a platform of more than one tile.
+#[tactic(auto, using(crate::proofs::Missing::one_tile_too))]
+pub fn load_one_tile<F: Files>(
+    alloc: Global,
+    name: &Text,
+    files: &mut F,
+) -> Result<Platform, TopFault>
     ensures same { F.holds files.new ≡ F.holds files.old }
     ensures counted { F.faults files.old ≤ F.faults files.new }
-    ensures reads { ReadsScript (F.holds files.old) (F.faults files.old) (F.faults files.new) name.now result }
-    ensures few { IfOk result (λ script. length script.commands ≤ MOST_COMMANDS) }
-    ensures cycles { IfOk result (λ script. All (λ command. stated_cycle command ≤ LAST_CYCLE) script.commands) }
+    ensures gives { IfOk result (λ platform. Gives (F.holds files.old) (OneTileWant name.now) (PlatformRead platform)) }
+    ensures one_tile { IfOk result (λ platform. platform.tiles ≡ 1) }
+    ensures refused { IfErr result (Refuses (F.holds files.old) (F.faults files.old) (F.faults files.new) (OneTileWant name.now)) }
 {
-    match read_file(alloc, name, files)? {
-        Content::Whole(bytes) => judge_script(alloc, name, bytes.as_slice()),
-        Content::TooLong => Err(TopFault::ScriptTooLong(copied(alloc, name)?)),
+    let platform = match load_platform(alloc, name, files) {
+        Ok(platform) => platform,
+        Err(fault) => return Err(fault),
+    };
+    if platform.tiles != 1 {
+        return Err(TopFault::Unbuilt);
     }
+    Ok(platform)
 }
 
 /// Reads and judges a bundle file for a platform. A file that is too long breaks rule B1.
-#[tactic(auto, using(crate::proofs::Causes::long_bundle))]
+#[tactic(auto, using(crate::proofs::Missing::missed))]
 pub fn load_bundle<F: Files>(
     alloc: Global,
     platform: &Platform,
-    name: Text,
+    name: &Text,
     files: &mut F,
 ) -> Result<Named, TopFault>
     ensures same { F.holds files.new ≡ F.holds files.old }
     ensures counted { F.faults files.old ≤ F.faults files.new }
-    ensures reads { ReadsBundle (F.holds files.old) (F.faults files.old) (F.faults files.new) platform.now name result }
+    ensures gives { IfOk result (λ named. Gives (F.holds files.old) (JudgedWant platform.now name.now) (BundleRead named)) }
     ensures well_formed { IfOk result (λ named. IfOk named.judged (IsWellFormed platform.now)) }
+    ensures refused { IfErr result (Refuses (F.holds files.old) (F.faults files.old) (F.faults files.new) (JudgedWant platform.now name.now)) }
 {
-    match read_file(alloc, &name, files)? {
+    let content = read_file(alloc, name, files)?;
+    let name = copied(alloc, name)?;
+    match content {
         Content::Whole(bytes) => match read_bundle(alloc, bytes.as_slice(), platform) {
             Ok(bundle) => Ok(Named {
                 name,
@@ -126,5 +126,29 @@ pub fn load_bundle<F: Files>(
             name,
             judged: Err(BRule::B1),
         }),
+    }
+}
+
+/// Reads the bundle of a file, and refuses one that breaks a rule.
+#[tactic(auto, using(crate::proofs::Missing::bundle_too, crate::proofs::Missing::bundle_kept, crate::proofs::Missing::bundle_broken))]
+pub fn load_kept<F: Files>(
+    alloc: Global,
+    platform: &Platform,
+    name: &Text,
+    files: &mut F,
+) -> Result<Bundle, TopFault>
+    ensures same { F.holds files.new ≡ F.holds files.old }
+    ensures counted { F.faults files.old ≤ F.faults files.new }
+    ensures gives { IfOk result (λ bundle. Gives (F.holds files.old) (BundleWant platform.now name.now) (BundleRead (record { name = name.now; judged = Ok bundle }))) }
+    ensures well_formed { IfOk result (IsWellFormed platform.now) }
+    ensures refused { IfErr result (Refuses (F.holds files.old) (F.faults files.old) (F.faults files.new) (BundleWant platform.now name.now)) }
+{
+    let Named { name, judged } = match load_bundle(alloc, platform, name, files) {
+        Ok(named) => named,
+        Err(fault) => return Err(fault),
+    };
+    match judged {
+        Ok(bundle) => Ok(bundle),
+        Err(rule) => Err(TopFault::Bundle(name, rule)),
     }
 }

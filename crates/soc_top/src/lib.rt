@@ -1,15 +1,16 @@
 //! The whole program as one call: from the words of a command line, over files and a sink, to the
 //! status that it ends with.
 //!
-//! `specs/Request` says what words ask for, `specs/Files` what the named files hold, `specs/Alone` in
-//! which order an `alone` is decided, and what it writes, `specs/Setups` and `specs/Run` the same of a
-//! `run`, and `specs/Faults` the lines and statuses of refusals. `specs/inner` has what only clauses of
+//! `specs/Request` says what words ask for, `specs/Wants` what one file is read as and why it is refused,
+//! `specs/Order` in which order files are read and which of them decides, `specs/Answers` how a request
+//! ends, and `specs/Faults` the lines and statuses of refusals. `specs/Alone` and `specs/Run` say for
+//! their command which files are read and what is written. `specs/inner` has what only clauses of
 //! private functions cite.
 #![tactic(auto)]
 
 /// The command `alone`.
 mod alone;
-/// The bundle files that a script names.
+/// The bundle files that scripts name.
 mod catalog;
 /// How a request ends.
 mod ending;
@@ -23,6 +24,8 @@ mod inputs;
 mod request;
 /// The command `run`.
 mod run;
+/// Reading and judging the scripts of a run.
+mod script;
 /// The setup that the files of a run give.
 mod setup;
 /// The top call.
@@ -37,12 +40,15 @@ pub use run::serial_call;
 pub use setup::read_setup;
 pub use top::compsoc;
 
+/// Traces of one application, and refusals of them.
+#[cfg(test)]
+mod alone_tests;
 /// Whole reports.
 #[cfg(test)]
 mod report_tests;
 /// Runs that are refused.
 #[cfg(test)]
 mod run_tests;
-/// Traces of one application, and refusals of them.
+/// One run over files and a sink in memory.
 #[cfg(test)]
 mod tests;

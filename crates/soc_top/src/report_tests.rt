@@ -1,36 +1,17 @@
-//! Whole runs by the top call, over files and a sink in memory. What is expected was worked out by hand
-//! from the cycles of the frame and the table of costs.
+//! The command `run`: whole reports.
 
-use crate::top::compsoc;
-use soc_base::Words;
-use soc_io::{MemFiles, MemSink};
+use crate::tests::{File, SEVEN, add, bundle, expect};
 use std::alloc::{AllocError, Global};
-use std::process::Abort;
 use std::test::Fail;
 
 // A platform of one tile with so many cycles a slot and so many partition slots.
-fn platform(alloc: Global, slot_cycles: u8, partition_slots: u8) -> Result<String, AllocError> {
+fn platform(alloc: Global, frame: (u8, u8)) -> Result<String, AllocError> {
+    let (slot_cycles, partition_slots) = frame;
     format!(in alloc;
         "tiles = 1\nmem_bytes = 4096\nslot_cycles = {slot_cycles}\ntable_slots = 8\nkernel_cycles = 72\npartition_cycles = 56\npartition_slots = {partition_slots}\nports = 2\nqueue = 8\n"
     )
 }
 
-// A bundle of one part.
-fn bundle(
-    alloc: Global,
-    slot: u8,
-    base: u32,
-    trace: u32,
-    kind: &str,
-    image: &str,
-) -> Result<String, AllocError> {
-    format!(in alloc;
-        "version = 1\n[[part]]\ntile = 0\nslots = [{slot}]\nbase = {base}\nlen = 64\nentry = 0\ntrace = {trace}\nkinds = [\"{kind}\"]\nimage = \"{image}\"\n"
-    )
-}
-
-// Stores 7 to TRACE and halts: 7 running cycles, of which the sixth ends the store.
-const SEVEN: &str = "93027000370300802320530073000000";
 // Stores a word to TRACE five times and halts.
 const FIVE: &str = "37030080232063002320630023206300232063002320630073000000";
 
@@ -47,222 +28,237 @@ fn dividing_bundle(alloc: Global) -> Result<String, AllocError> {
 }
 
 // The files that scripts name.
-fn add_bundles(alloc: Global, files: &mut MemFiles) -> Result<(), Fail> {
+fn shelf_of_bundles(alloc: Global) -> Result<Vec<File>, Fail> {
+    let mut shelf = Vec::new(alloc);
     let bundles = [
-        ("a.toml", 0, 0, 16, "word", SEVEN),
-        ("a2.toml", 1, 64, 16, "word", SEVEN),
-        ("a3.toml", 2, 128, 16, "word", SEVEN),
-        ("over.toml", 1, 48, 16, "word", SEVEN),
-        ("bad.toml", 1, 64, 16, "word", "1300000000000000"),
-        ("five.toml", 0, 0, 2, "word", FIVE),
-        ("cut.toml", 2, 128, 2, "word", FIVE),
-        ("lw.toml", 1, 64, 16, "step", "8322000073000000"),
-        ("odd.toml", 0, 0, 16, "word", "83222000"),
-        ("base.toml", 0, 8, 16, "word", SEVEN),
+        ("a.toml", 0, 0, 16, "\"word\"", SEVEN),
+        ("a2.toml", 1, 64, 16, "\"word\"", SEVEN),
+        ("a3.toml", 2, 128, 16, "\"word\"", SEVEN),
+        ("over.toml", 1, 48, 16, "\"word\"", SEVEN),
+        ("bad.toml", 1, 64, 16, "\"word\"", "1300000000000000"),
+        ("five.toml", 0, 0, 2, "\"word\"", FIVE),
+        ("cut.toml", 2, 128, 2, "\"word\"", FIVE),
+        ("lw.toml", 1, 64, 16, "\"step\"", "8322000073000000"),
+        ("odd.toml", 0, 0, 16, "\"word\"", "83222000"),
+        ("base.toml", 0, 8, 16, "\"word\"", SEVEN),
     ];
-    for (name, slot, base, trace, kind, image) in bundles {
-        let text = bundle(alloc, slot, base, trace, kind, image)?;
-        files.add(name, text.as_bytes())?;
+    for (name, slot, base, trace, kinds, image) in bundles {
+        let text = bundle(alloc, slot, base, trace, kinds, image)?;
+        add(alloc, &mut shelf, name, text.as_str())?;
     }
-    files.add("long.toml", dividing_bundle(alloc)?.as_bytes())?;
-    Ok(())
-}
-
-// The words of a command line, which has one blank between two of them.
-fn words_of(alloc: Global, line: &str) -> Result<Words, Fail> {
-    let mut words = Words::new(alloc);
-    for word in line.split_whitespace() {
-        words.add(word)?;
-    }
-    Ok(words)
-}
-
-// Runs a script on a platform, and compares the report.
-fn expect_report(
-    rt: &impl Abort,
-    alloc: Global,
-    platform: &str,
-    budget: u64,
-    script: &str,
-    report: &str,
-) -> Result<(), Fail> {
-    let mut files = MemFiles::new(alloc, Vec::new(alloc));
-    add_bundles(alloc, &mut files)?;
-    files.add("one.toml", platform.as_bytes())?;
-    files.add("s.txt", script.as_bytes())?;
-    let line = format!(in alloc; "run one.toml {budget} s.txt")?;
-    let words = words_of(alloc, line.as_str())?;
-    let mut sink = MemSink::new(alloc, 16384, Vec::new(alloc))?;
-    assert_eq!(rt;
-        compsoc(alloc, &words, &mut files, &mut sink),
-        0,
-        "{script}"
-    );
-    let text = format!(in alloc; "compsoc report 1\nbudget {report}end\n")?;
-    assert_eq!(rt; sink.written(), text.as_bytes(), "{script}");
-    Ok(())
+    let long = dividing_bundle(alloc)?;
+    add(alloc, &mut shelf, "long.toml", long.as_str())?;
+    Ok(shelf)
 }
 
 #[test]
-fn reports_of_one_application(rt: HostRuntime) -> Result<(), Fail> {
+fn reports(rt: HostRuntime) -> Result<(), Fail> {
     let alloc = rt.alloc();
-    let platform = platform(alloc, 8, 2)?;
+    let frame = (8, 2);
+    // The cycles of a slot and the partition slots, the budget and the scripts, two scripts, and the
+    // report after the word `budget`.
     let cases = [
         (
-            384,
-            "load a.toml at 0\n",
+            frame,
+            "384 s.txt",
+            ("load a.toml at 0\n", ""),
             "384\ncommand 1 1 load a.toml at 0: granted 1.1 at 0\napp 1.1 a.toml from 0 to 384\n77 0 word 00000007\npart 0 halt 00000000 at 78 cut 0\n",
         ),
         // The instance that began at 0 is missed, and that at 128 serves the other slot.
         (
-            384,
-            "load a.toml at 1\n",
+            frame,
+            "384 s.txt",
+            ("load a.toml at 1\n", ""),
             "384\ncommand 1 1 load a.toml at 1: granted 1.1 at 8\napp 1.1 a.toml from 8 to 384\n333 0 word 00000007\npart 0 halt 00000000 at 334 cut 0\n",
         ),
         // The grant begins within the microkernel's cycles of its own instance, and misses it.
         (
-            640,
-            "load a.toml at 296",
+            frame,
+            "640 s.txt",
+            ("load a.toml at 296", ""),
             "640\ncommand 1 1 load a.toml at 296: granted 1.1 at 296\napp 1.1 a.toml from 296 to 640\n589 0 word 00000007\npart 0 halt 00000000 at 590 cut 0\n",
         ),
         // The division begins at 112, has 18 cycles left at 127, and ends at 345.
         (
-            512,
-            "load long.toml at 0\n",
+            frame,
+            "512 s.txt",
+            ("load long.toml at 0\n", ""),
             "512\ncommand 1 1 load long.toml at 0: granted 1.1 at 0\napp 1.1 long.toml from 0 to 512\n349 0 word 0000000e\npart 0 halt 00000000 at 350 cut 0\n",
         ),
-        (8, "", "8\n"),
-        (8, "\n# note\n", "8\n"),
         (
-            0,
-            "load a.toml at 0\n",
+            frame,
+            "8 s.txt",
+            ("", ""),
+            "8\n",
+        ),
+        (
+            frame,
+            "8 s.txt",
+            ("\n# note\n", ""),
+            "8\n",
+        ),
+        (
+            frame,
+            "0 s.txt",
+            ("load a.toml at 0\n", ""),
             "0\ncommand 1 1 load a.toml at 0: granted 1.1 at 0\napp 1.1 a.toml from 0 to 0\npart 0 live cut 0\n",
         ),
         (
-            384,
-            "load five.toml at 0\n",
+            frame,
+            "384 s.txt",
+            ("load five.toml at 0\n", ""),
             "384\ncommand 1 1 load five.toml at 0: granted 1.1 at 0\napp 1.1 five.toml from 0 to 384\n76 0 word 80000000\n80 0 word 80000000\npart 0 halt 00000000 at 93 cut 3\n",
         ),
         (
-            384,
-            "load lw.toml at 0\n",
+            frame,
+            "384 s.txt",
+            ("load lw.toml at 0\n", ""),
             "384\ncommand 1 1 load lw.toml at 0: granted 1.1 at 0\napp 1.1 lw.toml from 0 to 384\n201 0 step 00000000\n202 0 step 00000004\npart 0 halt 00000000 at 202 cut 0\n",
         ),
         (
-            384,
-            "load odd.toml at 0\n",
+            frame,
+            "384 s.txt",
+            ("load odd.toml at 0\n", ""),
             "384\ncommand 1 1 load odd.toml at 0: granted 1.1 at 0\napp 1.1 odd.toml from 0 to 384\npart 0 fault align at 73 cut 0\n",
         ),
         (
-            384,
-            "load base.toml at 0\n",
+            frame,
+            "384 s.txt",
+            ("load base.toml at 0\n", ""),
             "384\ncommand 1 1 load base.toml at 0: malformed B7\n",
         ),
-    ];
-    for (budget, script, report) in cases {
-        expect_report(&rt, alloc, platform.as_str(), budget, script, report)?;
-    }
-    Ok(())
-}
-
-#[test]
-fn reports_of_several_applications(rt: HostRuntime) -> Result<(), Fail> {
-    let alloc = rt.alloc();
-    let platform = platform(alloc, 8, 2)?;
-    let cases = [
         (
-            384,
-            "load a.toml at 0\nload bad.toml at 0\n",
+            frame,
+            "384 s.txt",
+            ("load a.toml at 0\nload bad.toml at 0\n", ""),
             "384\ncommand 1 1 load a.toml at 0: granted 1.1 at 0\ncommand 1 2 load bad.toml at 0: granted 1.2 at 0\napp 1.1 a.toml from 0 to 384\n77 0 word 00000007\npart 0 halt 00000000 at 78 cut 0\napp 1.2 bad.toml from 0 to 384\npart 0 fault illegal at 201 cut 0\n",
         ),
-        // Regions that touch are granted.
         (
-            0,
-            "load a.toml at 0\nload over.toml at 0\nload a2.toml at 0\n",
+            frame,
+            "0 s.txt",
+            ("load a.toml at 0\nload over.toml at 0\nload a2.toml at 0\n", ""),
             "0\ncommand 1 1 load a.toml at 0: granted 1.1 at 0\ncommand 1 2 load over.toml at 0: taken span 0 48 64 by 1.1 free none\ncommand 1 3 load a2.toml at 0: granted 1.3 at 0\napp 1.1 a.toml from 0 to 0\npart 0 live cut 0\napp 1.3 a2.toml from 0 to 0\npart 0 live cut 0\n",
         ),
         (
-            8,
-            "load a.toml at 8\nload a2.toml at 80\nload a.toml at 160\n",
+            frame,
+            "8 s.txt",
+            ("load a.toml at 8\nload a2.toml at 80\nload a.toml at 160\n", ""),
             "8\ncommand 1 1 load a.toml at 8: granted 1.1 at 8\ncommand 1 2 load a2.toml at 80: granted 1.2 at 80\ncommand 1 3 load a.toml at 160: taken partition 0 0 by 1.1 free none\napp 1.1 a.toml from 8 to 8\npart 0 live cut 0\napp 1.2 a2.toml from 80 to 80\npart 0 live cut 0\n",
         ),
         (
-            384,
-            "load a2.toml at 0\r\nload base.toml at 0\r\n\tload  a.toml\tat 0007",
+            frame,
+            "384 s.txt",
+            ("load a2.toml at 0\r\nload base.toml at 0\r\n\tload  a.toml\tat 0007", ""),
             "384\ncommand 1 1 load a2.toml at 0: granted 1.1 at 0\ncommand 1 2 load base.toml at 0: malformed B7\ncommand 1 3 load a.toml at 7: granted 1.3 at 8\napp 1.1 a2.toml from 0 to 384\n205 0 word 00000007\npart 0 halt 00000000 at 206 cut 0\napp 1.3 a.toml from 8 to 384\n333 0 word 00000007\npart 0 halt 00000000 at 334 cut 0\n",
         ),
+        // Other frames. One halts, one faults, and of one the trace is cut.
+        (
+            (8, 3),
+            "384 s.txt",
+            ("load a.toml at 0\nload bad.toml at 0\nload cut.toml at 0\n", ""),
+            "384\ncommand 1 1 load a.toml at 0: granted 1.1 at 0\ncommand 1 2 load bad.toml at 0: granted 1.2 at 0\ncommand 1 3 load cut.toml at 0: granted 1.3 at 0\napp 1.1 a.toml from 0 to 384\n77 0 word 00000007\npart 0 halt 00000000 at 78 cut 0\napp 1.2 bad.toml from 0 to 384\npart 0 fault illegal at 201 cut 0\napp 1.3 cut.toml from 0 to 384\n332 0 word 80000000\n336 0 word 80000000\npart 0 halt 00000000 at 349 cut 3\n",
+        ),
+        (
+            (1, 1),
+            "384 s.txt",
+            ("load a.toml at 3\n", ""),
+            "384\ncommand 1 1 load a.toml at 3: granted 1.1 at 3\napp 1.1 a.toml from 3 to 384\n205 0 word 00000007\npart 0 halt 00000000 at 206 cut 0\n",
+        ),
+        (
+            (64, 2),
+            "380 s.txt",
+            ("load a.toml at 1\n", ""),
+            "384\ncommand 1 1 load a.toml at 1: granted 1.1 at 64\napp 1.1 a.toml from 64 to 384\n333 0 word 00000007\npart 0 halt 00000000 at 334 cut 0\n",
+        ),
+        // Two sessions commit in turn, a command each.
+        (
+            frame,
+            "384 s.txt t.txt",
+            ("load a.toml at 8\nload a.toml at 160\n", "load a2.toml at 80\n"),
+            "384\ncommand 1 1 load a.toml at 8: granted 1.1 at 8\ncommand 2 1 load a2.toml at 80: granted 2.1 at 80\ncommand 1 2 load a.toml at 160: taken partition 0 0 by 1.1 free none\napp 1.1 a.toml from 8 to 384\n333 0 word 00000007\npart 0 halt 00000000 at 334 cut 0\napp 2.1 a2.toml from 80 to 384\n205 0 word 00000007\npart 0 halt 00000000 at 206 cut 0\n",
+        ),
+        // The sessions are those of the words, in their order.
+        (
+            frame,
+            "384 t.txt s.txt",
+            ("load a.toml at 0\n", "# none\n"),
+            "384\ncommand 2 1 load a.toml at 0: granted 2.1 at 0\napp 2.1 a.toml from 0 to 384\n77 0 word 00000007\npart 0 halt 00000000 at 78 cut 0\n",
+        ),
+        // One script makes two sessions where it is named twice.
+        (
+            frame,
+            "384 s.txt s.txt",
+            ("load a.toml at 0\n", ""),
+            "384\ncommand 1 1 load a.toml at 0: granted 1.1 at 0\ncommand 2 1 load a.toml at 0: taken partition 0 0 by 1.1 free none\napp 1.1 a.toml from 0 to 384\n77 0 word 00000007\npart 0 halt 00000000 at 78 cut 0\n",
+        ),
     ];
-    for (budget, script, report) in cases {
-        expect_report(&rt, alloc, platform.as_str(), budget, script, report)?;
+    for (frame, words, scripts, report) in cases {
+        let mut shelf = shelf_of_bundles(alloc)?;
+        let platform = platform(alloc, frame)?;
+        add(alloc, &mut shelf, "one.toml", platform.as_str())?;
+        add(alloc, &mut shelf, "s.txt", scripts.0)?;
+        add(alloc, &mut shelf, "t.txt", scripts.1)?;
+        let line = format!(in alloc; "run one.toml {words}")?;
+        let text = format!(in alloc; "compsoc report 1\nbudget {report}end\n")?;
+        expect(&rt, alloc, shelf.as_slice(), (line.as_str(), 0, 0, 0, text.as_str()))?;
     }
     Ok(())
 }
 
-#[test]
-fn reports_on_other_frames(rt: HostRuntime) -> Result<(), Fail> {
-    let alloc = rt.alloc();
-    // Cycles of a slot, partition slots, budget, script and report.
-    let cases = [
-        // One halts, one faults, and of one the trace is cut.
-        (
-            8,
-            3,
-            384,
-            "load a.toml at 0\nload bad.toml at 0\nload cut.toml at 0\n",
-            "384\ncommand 1 1 load a.toml at 0: granted 1.1 at 0\ncommand 1 2 load bad.toml at 0: granted 1.2 at 0\ncommand 1 3 load cut.toml at 0: granted 1.3 at 0\napp 1.1 a.toml from 0 to 384\n77 0 word 00000007\npart 0 halt 00000000 at 78 cut 0\napp 1.2 bad.toml from 0 to 384\npart 0 fault illegal at 201 cut 0\napp 1.3 cut.toml from 0 to 384\n332 0 word 80000000\n336 0 word 80000000\npart 0 halt 00000000 at 349 cut 3\n",
-        ),
-        (
-            1,
-            1,
-            384,
-            "load a.toml at 3\n",
-            "384\ncommand 1 1 load a.toml at 3: granted 1.1 at 3\napp 1.1 a.toml from 3 to 384\n205 0 word 00000007\npart 0 halt 00000000 at 206 cut 0\n",
-        ),
-        (
-            64,
-            2,
-            380,
-            "load a.toml at 1\n",
-            "384\ncommand 1 1 load a.toml at 1: granted 1.1 at 64\napp 1.1 a.toml from 64 to 384\n333 0 word 00000007\npart 0 halt 00000000 at 334 cut 0\n",
-        ),
-    ];
-    for (slot_cycles, partition_slots, budget, script, report) in cases {
-        let platform = platform(alloc, slot_cycles, partition_slots)?;
-        expect_report(&rt, alloc, platform.as_str(), budget, script, report)?;
+// What a session's first command of sixteen is, and how its application ran.
+fn sixteen(
+    alloc: Global,
+    files: &mut Vec<File>,
+    sessions: bool,
+) -> Result<(String, String), Fail> {
+    let mut words = String::from_str(alloc, "run one.toml 2048")?;
+    let mut script = String::new(alloc);
+    let mut commands = String::new(alloc);
+    let mut apps = String::new(alloc);
+    for slot in 0..16u8 {
+        let number = slot + 1;
+        let text = bundle(alloc, slot, 64 * u32::from(slot), 16, "\"word\"", SEVEN)?;
+        let name = format!(in alloc; "a{slot}.toml")?;
+        add(alloc, files, name.as_str(), text.as_str())?;
+        let load = format!(in alloc; "load {name} at 0")?;
+        let label = if sessions {
+            let own = format!(in alloc; "s{number}.txt")?;
+            add(alloc, files, own.as_str(), load.as_str())?;
+            words.push_str(format!(in alloc; " {own}")?.as_str())?;
+            commands.push_str(format!(in alloc; "command {number} 1 ")?.as_str())?;
+            format!(in alloc; "{number}.1")?
+        } else {
+            script.push_str(format!(in alloc; "{load}\n")?.as_str())?;
+            commands.push_str(format!(in alloc; "command 1 {number} ")?.as_str())?;
+            format!(in alloc; "1.{number}")?
+        };
+        commands.push_str(format!(in alloc; "{load}: granted {label} at 0\n")?.as_str())?;
+        // Its slot is served first in the instance of its number.
+        let stored = 128 * u32::from(slot) + 77;
+        let halted = stored + 1;
+        apps.push_str(format!(in alloc;
+            "app {label} {name} from 0 to 2048\n{stored} 0 word 00000007\npart 0 halt 00000000 at {halted} cut 0\n"
+        )?.as_str())?;
     }
-    Ok(())
+    if !sessions {
+        add(alloc, files, "s.txt", script.as_str())?;
+        words.push_str(" s.txt")?;
+    }
+    let text = format!(in alloc; "compsoc report 1\nbudget 2048\n{commands}{apps}end\n")?;
+    Ok((words, text))
 }
 
 #[test]
 fn sixteen_parts_on_one_tile(rt: HostRuntime) -> Result<(), Fail> {
     let alloc = rt.alloc();
-    let mut files = MemFiles::new(alloc, Vec::new(alloc));
-    files.add("one.toml", platform(alloc, 8, 16)?.as_bytes())?;
-    let mut script = String::new(alloc);
-    let mut commands = String::new(alloc);
-    let mut apps = String::new(alloc);
-    for slot in 0..16u8 {
-        let name = format!(in alloc; "a{slot}.toml")?;
-        let text = bundle(alloc, slot, 64 * u32::from(slot), 16, "word", SEVEN)?;
-        files.add(name.as_str(), text.as_bytes())?;
-        script.push_str(format!(in alloc; "load {name} at 0\n")?.as_str())?;
-        let number = u32::from(slot) + 1;
-        // Its slot is served first in the instance of its number.
-        let stored = 128 * u32::from(slot) + 77;
-        let halted = stored + 1;
-        commands.push_str(format!(in alloc;
-            "command 1 {number} load {name} at 0: granted 1.{number} at 0\n"
-        )?.as_str())?;
-        apps.push_str(format!(in alloc;
-            "app 1.{number} {name} from 0 to 2048\n{stored} 0 word 00000007\npart 0 halt 00000000 at {halted} cut 0\n"
-        )?.as_str())?;
+    // Of one script, and of sixteen.
+    for sessions in [false, true] {
+        let mut shelf = Vec::new(alloc);
+        let platform = platform(alloc, (8, 16))?;
+        add(alloc, &mut shelf, "one.toml", platform.as_str())?;
+        let (line, text) = sixteen(alloc, &mut shelf, sessions)?;
+        expect(&rt, alloc, shelf.as_slice(), (line.as_str(), 0, 0, 0, text.as_str()))?;
     }
-    files.add("s.txt", script.as_bytes())?;
-    let words = words_of(alloc, "run one.toml 2048 s.txt")?;
-    let mut sink = MemSink::new(alloc, 16384, Vec::new(alloc))?;
-    assert_eq!(rt; compsoc(alloc, &words, &mut files, &mut sink), 0);
-    let text = format!(in alloc; "compsoc report 1\nbudget 2048\n{commands}{apps}end\n")?;
-    assert_eq!(rt; sink.written(), text.as_bytes());
     Ok(())
 }
 
@@ -279,19 +275,12 @@ fn a_failing_write_of_a_report(rt: HostRuntime) -> Result<(), Fail> {
             "compsoc report 1\nbudget 384\ncommand 1 1 load a.toml at 0: granted 1.1 at 0\napp 1.1 a.toml from 0 to 384\n",
         ),
     ];
+    let mut shelf = shelf_of_bundles(alloc)?;
+    let platform = platform(alloc, (8, 2))?;
+    add(alloc, &mut shelf, "one.toml", platform.as_str())?;
+    add(alloc, &mut shelf, "s.txt", "load a.toml at 0\n")?;
     for (failing, text) in cases {
-        let mut files = MemFiles::new(alloc, Vec::new(alloc));
-        add_bundles(alloc, &mut files)?;
-        files.add("one.toml", platform(alloc, 8, 2)?.as_bytes())?;
-        files.add("s.txt", b"load a.toml at 0\n")?;
-        let words = words_of(alloc, "run one.toml 384 s.txt")?;
-        let mut sink = MemSink::new(alloc, 4096, vec![in alloc; failing]?)?;
-        assert_eq!(rt;
-            compsoc(alloc, &words, &mut files, &mut sink),
-            6,
-            "at write {failing}"
-        );
-        assert_eq!(rt; sink.written(), text.as_bytes(), "at write {failing}");
+        expect(&rt, alloc, shelf.as_slice(), ("run one.toml 384 s.txt", 0, failing, 6, text))?;
     }
     Ok(())
 }

@@ -1,9 +1,9 @@
 //! What a command line asks for.
 
-ghost use Rattle.std.specs.Prelude.{◌≡◌, ◌≢◌, ◌≤◌, ◌↔◌, None, Some, Ok, IfOk, length};
-ghost use Rattle.soc_top.specs.Request.{alone_of, alone_asked, run_of, run_asked, asked_of, AreInForm};
+ghost use Rattle.std.specs.Prelude.{◌≡◌, ◌≢◌, ◌+◌, ◌≤◌, ◌↔◌, None, Some, Ok, IfOk, length, drop};
+ghost use Rattle.soc_top.specs.Request.{alone_of, alone_asked, run_asked, asked_of, AreInForm};
 
-use soc_base::{LAST_STATED_CYCLE, Text, Words, read_number};
+use soc_base::{Items, LAST_STATED_CYCLE, MOST_SCRIPTS, NoMemory, Text, Words, read_number};
 use std::alloc::Global;
 use thiserror::Error;
 
@@ -21,15 +21,15 @@ pub struct AloneWords {
     pub budget: u64,
 }
 
-/// The words of the command `run`: a platform file, a cycle from 0 to 1,000,000,000,000, and a script.
+/// The words of the command `run`: a platform file, a cycle from 0 to 1,000,000,000,000, and 1 to 16 scripts.
 #[derive(Debug, Drop)]
 pub struct RunWords {
     /// The name of the platform file.
     pub platform: Text,
     /// The cycle at which the run ends.
     pub budget: u64,
-    /// The name of the script.
-    pub script: Text,
+    /// The names of the scripts, one for each session.
+    pub scripts: Items<Text>,
 }
 
 /// What a command line asks for.
@@ -37,7 +37,7 @@ pub struct RunWords {
 pub enum Request {
     /// The trace of a bundle alone on the empty platform.
     Alone(AloneWords),
-    /// A run of a script's loads on the platform, and its report.
+    /// A run of scripts on the platform, and its report.
     Run(RunWords),
 }
 
@@ -52,8 +52,8 @@ pub enum WordsFault {
     NoMemory,
 }
 
-/// Reads what words ask for: `alone PLATFORM BUNDLE START BUDGET` or `run PLATFORM BUDGET SCRIPT`, the
-/// cycles in decimal digits. Refuses with `Usage` exactly where the words aren't of one of these forms
+/// Reads what words ask for: `alone PLATFORM BUNDLE START BUDGET` or `run PLATFORM BUDGET SCRIPT...` with 1
+/// to 16 scripts, the cycles in decimal digits. Refuses with `Usage` exactly where the words aren't of one of these forms
 /// or a cycle is above 1,000,000,000,000.
 #[tactic(auto, unfolding(crate::specs::Request::asked_of))]
 pub fn read_words(alloc: Global, words: &Words) -> Result<Request, WordsFault>
@@ -63,7 +63,7 @@ pub fn read_words(alloc: Global, words: &Words) -> Result<Request, WordsFault>
 {
     if words.len() == 5 && words.word(0) == "alone" {
         read_alone(alloc, words)
-    } else if words.len() == 4 && words.word(0) == "run" {
+    } else if words.len() >= 4 && words.len() <= 3 + MOST_SCRIPTS && words.word(0) == "run" {
         read_run(alloc, words)
     } else {
         Err(WordsFault::Usage)
@@ -87,8 +87,10 @@ fn read_alone(alloc: Global, words: &Words) -> Result<Request, WordsFault>
 }
 
 // Reads the words of a `run`.
+#[tactic(auto, using(crate::proofs::Names::few_scripts))]
 fn read_run(alloc: Global, words: &Words) -> Result<Request, WordsFault>
-    requires { 4 ≤ length words.now }
+    requires some { 4 ≤ length words.now }
+    requires few { length words.now ≤ 3 + MOST_SCRIPTS }
     ensures usage { (result ≡ Err WordsFault.Usage) ↔ (run_asked words.now ≡ None) }
     ensures request { IfOk result (λ request. run_asked words.now ≡ Some request) }
     ensures in_form { IfOk result AreInForm }
@@ -96,7 +98,29 @@ fn read_run(alloc: Global, words: &Words) -> Result<Request, WordsFault>
     let Ok(budget) = read_number(words.word(2).as_bytes(), LAST_STATED_CYCLE) else {
         return Err(WordsFault::Usage);
     };
-    run_words(alloc, words.word(1), budget, words.word(3))
+    let (Ok(platform), Ok(scripts)) = (
+        Text::from_str(alloc, words.word(1)),
+        script_names(alloc, words),
+    ) else {
+        return Err(WordsFault::NoMemory);
+    };
+    Ok(Request::Run(RunWords {
+        platform,
+        budget,
+        scripts,
+    }))
+}
+
+// The names of the scripts: the fourth word and those after it.
+fn script_names(alloc: Global, words: &Words) -> Result<Items<Text>, NoMemory>
+    requires { 3 ≤ length words.now }
+    ensures { IfOk result (λ names. names ≡ drop 3 words.now) }
+{
+    let mut names = Items::new(alloc);
+    for n in 3..words.len() {
+        names.push(Text::from_str(alloc, words.word(n))?)?;
+    }
+    Ok(names)
 }
 
 // The words of an `alone`, as a request of its own.
@@ -121,28 +145,5 @@ fn alone_words(
         bundle,
         start,
         budget,
-    }))
-}
-
-// The words of a `run`, as a request of its own.
-fn run_words(
-    alloc: Global,
-    platform: &str,
-    budget: u64,
-    script: &str,
-) -> Result<Request, WordsFault>
-    ensures refused { result ≢ Err WordsFault.Usage }
-    ensures request { IfOk result (λ request. run_of platform.now (Ok budget) script.now ≡ Some request) }
-{
-    let (Ok(platform), Ok(script)) = (
-        Text::from_str(alloc, platform),
-        Text::from_str(alloc, script),
-    ) else {
-        return Err(WordsFault::NoMemory);
-    };
-    Ok(Request::Run(RunWords {
-        platform,
-        budget,
-        script,
     }))
 }

@@ -1,5 +1,5 @@
-//! Tests of the top call, over files and a sink in memory. What is expected was worked out by hand from
-//! the cycles of the frame and the table of costs.
+//! One run of the program over files and a sink in memory, for the tables of the other tests. What they
+//! expect was worked out by hand from the cycles of the frame and the table of costs.
 
 use crate::top::compsoc;
 use soc_base::Words;
@@ -8,378 +8,68 @@ use std::alloc::{AllocError, Global};
 use std::process::Abort;
 use std::test::Fail;
 
+/// A file by its name and its bytes.
+pub type File = (String, Vec<u8>);
+
 /// A platform file that breaks no rule.
 pub const PLATFORM: &str =
     "tiles = 1\nmem_bytes = 4096\nslot_cycles = 8\ntable_slots = 8\nkernel_cycles = 72\npartition_cycles = 56\npartition_slots = 2\nports = 2\nqueue = 8\n";
 
-/// A bundle of one part, with these lines of its own.
-pub fn bundle(alloc: Global, part: &str) -> Result<String, AllocError> {
-    format!(in alloc; "version = 1\n[[part]]\ntile = 0\nentry = 0\n{part}")
+/// Stores 7 to TRACE and halts: 7 running cycles, of which the sixth ends the store.
+pub const SEVEN: &str = "93027000370300802320530073000000";
+
+/// Appends a file.
+pub fn add(alloc: Global, shelf: &mut Vec<File>, name: &str, text: &str) -> Result<(), AllocError> {
+    let name = String::from_str(alloc, name)?;
+    let bytes = Vec::from_slice(alloc, text.as_bytes())?;
+    shelf.push((name, bytes))?;
+    Ok(())
 }
 
-// The words of a command line, which has one blank between two of them.
-fn words_of(alloc: Global, line: &str) -> Result<Words, Fail> {
+/// A bundle of one part of 64 bytes.
+pub fn bundle(
+    alloc: Global,
+    slot: u8,
+    base: u32,
+    trace: u32,
+    kind: &str,
+    image: &str,
+) -> Result<String, AllocError> {
+    format!(in alloc;
+        "version = 1\n[[part]]\ntile = 0\nslots = [{slot}]\nbase = {base}\nlen = 64\nentry = 0\ntrace = {trace}\nkinds = [{kind}]\nimage = \"{image}\"\n"
+    )
+}
+
+// Runs a line's words, and hands back the status and what was written.
+fn ran(
+    alloc: Global,
+    shelf: &[File],
+    line: &str,
+    read: u64,
+    write: u64,
+) -> Result<(u8, Vec<u8>), Fail> {
     let mut words = Words::new(alloc);
     for word in line.split_whitespace() {
         words.add(word)?;
     }
-    Ok(words)
-}
-
-/// Runs a line over `one.toml`, `a.toml` and others, with reads and writes that fail, and compares the
-/// status and what was written.
-pub fn expect_run(
-    rt: &impl Abort,
-    files: &mut MemFiles,
-    sink: &mut MemSink,
-    alloc: Global,
-    line: &str,
-    status: u8,
-    text: &str,
-) -> Result<(), Fail> {
-    let words = words_of(alloc, line)?;
-    assert_eq!(rt; compsoc(alloc, &words, files, sink), status, "{line}");
-    assert_eq!(rt; sink.written(), text.as_bytes(), "{line}");
-    Ok(())
-}
-
-/// The part of `a.toml`.
-pub const A: &str =
-    "slots = [0]\nbase = 0\nlen = 64\ntrace = 16\nkinds = [\"word\"]\nimage = \"93027000370300802320530073000000\"\n";
-
-#[test]
-fn traces_of_one_application(rt: HostRuntime) -> Result<(), Fail> {
-    let alloc = rt.alloc();
-    let halts = "kinds = [\"word\"]\nimage = \"93027000370300802320530073000000\"\n";
-    let steps = "kinds = [\"word\", \"step\"]\nimage = \"93027000370300802320530073000000\"\n";
-    let cases = [
-        (
-            "trace = 16\n",
-            halts,
-            "1 384",
-            "alone a.toml from 8 to 384\n333 0 word 00000007\npart 0 halt 00000000 at 334 cut 0\nend\n",
-        ),
-        (
-            "trace = 16\n",
-            halts,
-            "0 72",
-            "alone a.toml from 0 to 72\npart 0 live cut 0\nend\n",
-        ),
-        (
-            "trace = 16\n",
-            halts,
-            "296 640",
-            "alone a.toml from 296 to 640\n589 0 word 00000007\npart 0 halt 00000000 at 590 cut 0\nend\n",
-        ),
-        (
-            "trace = 16\n",
-            halts,
-            "16 8",
-            "alone a.toml from 16 to 16\npart 0 live cut 0\nend\n",
-        ),
-        (
-            "trace = 16\n",
-            halts,
-            "000 0001000000000000",
-            "alone a.toml from 0 to 1000000000000\n77 0 word 00000007\npart 0 halt 00000000 at 78 cut 0\nend\n",
-        ),
-        (
-            "trace = 16\n",
-            halts,
-            "1000000000000 1000000000000",
-            "alone a.toml from 1000000000000 to 1000000000000\npart 0 live cut 0\nend\n",
-        ),
-        (
-            "trace = 0\n",
-            halts,
-            "0 384",
-            "alone a.toml from 0 to 384\npart 0 halt 00000000 at 78 cut 1\nend\n",
-        ),
-        (
-            "trace = 16\n",
-            steps,
-            "0 384",
-            "alone a.toml from 0 to 384\n72 0 step 00000000\n73 0 step 00000004\n77 0 word 00000007\n77 0 step 00000008\n78 0 step 0000000c\npart 0 halt 00000000 at 78 cut 0\nend\n",
-        ),
-    ];
-    for (trace, rest, cycles, text) in cases {
-        let mut files = MemFiles::new(alloc, Vec::new(alloc));
-        files.add("one.toml", PLATFORM.as_bytes())?;
-        let part = format!(in alloc; "slots = [0]\nbase = 0\nlen = 64\n{trace}{rest}")?;
-        files.add("a.toml", bundle(alloc, part.as_str())?.as_bytes())?;
-        let mut sink = MemSink::new(alloc, 4096, Vec::new(alloc))?;
-        let line = format!(in alloc; "alone one.toml a.toml {cycles}")?;
-        expect_run(&rt, &mut files, &mut sink, alloc, line.as_str(), 0, text)?;
+    let mut files = MemFiles::new(alloc, Vec::from_slice(alloc, &[read])?);
+    for (name, bytes) in shelf {
+        files.add(name.as_str(), bytes.as_slice())?;
     }
-    Ok(())
+    let mut sink = MemSink::new(alloc, 16384, Vec::from_slice(alloc, &[write])?)?;
+    let status = compsoc(alloc, &words, &mut files, &mut sink);
+    Ok((status, Vec::from_slice(alloc, sink.written())?))
 }
 
-#[test]
-fn programs_of_one_part(rt: HostRuntime) -> Result<(), Fail> {
-    let alloc = rt.alloc();
-    let second = "slots = [1]\nbase = 64\nlen = 64\n";
-    let first = "slots = [0]\nbase = 0\nlen = 64\n";
-    let long = "slots = [0]\nbase = 0\nlen = 176\n";
-    let nops =
-        "13000000130000001300000013000000130000001300000013000000130000001300000013000000130000001300000013000000130000001300000013000000130000001300000013000000130000001300000013000000130000001300000013000000130000001300000013000000130000001300000013000000130000001300000013000000130000001300000013000000";
-    let divides = format!(in alloc; "370300809302400693037000{nops}33c472022320830073000000")?;
-    let cases = [
-        // A division that begins at 112 has 18 cycles left at 127 and ends at 345.
-        (
-            long,
-            "word",
-            divides.as_str(),
-            "0 512",
-            "349 0 word 0000000e\npart 0 halt 00000000 at 350 cut 0\n",
-        ),
-        (
-            second,
-            "word",
-            "1300000000000000",
-            "0 384",
-            "part 0 fault illegal at 201 cut 0\n",
-        ),
-        (
-            second,
-            "step",
-            "8322000073000000",
-            "0 384",
-            "201 0 step 00000000\n202 0 step 00000004\npart 0 halt 00000000 at 202 cut 0\n",
-        ),
-        (
-            first,
-            "step",
-            "83222000",
-            "0 384",
-            "part 0 fault align at 73 cut 0\n",
-        ),
-        // A store that changes an instruction ahead to ECALL.
-        (
-            first,
-            "word",
-            "93025005b733070093033007232a700013053000130000001305400073000000",
-            "0 384",
-            "part 0 halt 00000003 at 78 cut 0\n",
-        ),
-        // CYCLEH and CYCLE.
-        (
-            first,
-            "word",
-            "37030080832283008323430023205300232073001385030073000000",
-            "0 384",
-            "84 0 word 00000000\n88 0 word 00000050\npart 0 halt 00000050 at 90 cut 0\n",
-        ),
-        (
-            first,
-            "word",
-            "37030080832283008323430023205300232073001385030073000000",
-            "8589934592 8589934720",
-            "8589934676 0 word 00000002\n8589934680 0 word 00000050\npart 0 halt 00000050 at 8589934682 cut 0\n",
-        ),
-        // Loads of each width, the region's last byte, and one past it.
-        (
-            first,
-            "word",
-            "370300808302800383438003031480038354800383258003232053002320730023208300232093002320b3000346f003830600040000000080ff0182",
-            "0 384",
-            "86 0 word ffffff80\n90 0 word 00000080\n94 0 word ffffff80\n98 0 word 0000ff80\n102 0 word 8201ff80\npart 0 fault access at 106 cut 0\n",
-        ),
-        // A byte to a device register.
-        (
-            first,
-            "word",
-            "3703008023000300",
-            "0 384",
-            "part 0 fault access at 76 cut 0\n",
-        ),
-        // Jumps to the last word, past it, and to an odd half word; EBREAK.
-        (
-            first,
-            "word",
-            "6700c003",
-            "0 384",
-            "part 0 fault illegal at 75 cut 0\n",
-        ),
-        (
-            first,
-            "word",
-            "67000004",
-            "0 384",
-            "part 0 fault fetch at 75 cut 0\n",
-        ),
-        (
-            first,
-            "word",
-            "67002000",
-            "0 384",
-            "part 0 fault target at 74 cut 0\n",
-        ),
-        (
-            first,
-            "word",
-            "73001000",
-            "0 384",
-            "part 0 fault break at 72 cut 0\n",
-        ),
-        // Branches, taken twice and then not.
-        (
-            first,
-            "word",
-            "930230009382f2ffe39e02fe73000000",
-            "0 384",
-            "part 0 halt 00000000 at 83 cut 0\n",
-        ),
-    ];
-    for (region, kind, image, cycles, lines) in cases {
-        let mut files = MemFiles::new(alloc, Vec::new(alloc));
-        files.add("one.toml", PLATFORM.as_bytes())?;
-        let part = format!(in alloc;
-            "{region}trace = 16\nkinds = [\"{kind}\"]\nimage = \"{image}\"\n"
-        )?;
-        files.add("a.toml", bundle(alloc, part.as_str())?.as_bytes())?;
-        let mut sink = MemSink::new(alloc, 4096, Vec::new(alloc))?;
-        let line = format!(in alloc; "alone one.toml a.toml {cycles}")?;
-        let words = words_of(alloc, line.as_str())?;
-        assert_eq!(rt; compsoc(alloc, &words, &mut files, &mut sink), 0, "{image}");
-        let wanted = format!(in alloc; "{lines}end\n")?;
-        assert!(rt;
-            sink.written().ends_with(wanted.as_bytes()),
-            "{image} at {cycles}"
-        );
-    }
-    Ok(())
-}
+/// A run: the words, the numbers of the read and of the write that fail, or 0, the status, and what is
+/// written.
+pub type Row<'a> = (&'a str, u64, u64, u8, &'a str);
 
-/// So many bytes.
-pub fn filler(alloc: Global, count: usize) -> Result<Vec<u8>, AllocError> {
-    Vec::from_elem(alloc, b'#', count)
-}
-
-// The files of the refusals, of which the reads with these numbers fail.
-fn shelf(alloc: Global, fails: &[u64], long: usize) -> Result<MemFiles, Fail> {
-    let mut files = MemFiles::new(alloc, Vec::from_slice(alloc, fails)?);
-    files.add("one.toml", PLATFORM.as_bytes())?;
-    files.add("a.toml", bundle(alloc, A)?.as_bytes())?;
-    files.add(
-        "p4.toml",
-        b"tiles = 33\nmem_bytes = 4096\nslot_cycles = 8\ntable_slots = 8\nkernel_cycles = 72\npartition_cycles = 56\npartition_slots = 2\nports = 2\nqueue = 8\n",
-    )?;
-    files.add(
-        "b7.toml",
-        bundle(
-            alloc,
-            "slots = [0]\nbase = 8\nlen = 64\ntrace = 16\nimage = \"\"\n",
-        )?
-        .as_bytes(),
-    )?;
-    files.add("long.toml", filler(alloc, long)?.as_slice())?;
-    Ok(files)
-}
-
-#[test]
-fn refusals(rt: HostRuntime) -> Result<(), Fail> {
-    let alloc = rt.alloc();
-    let cases: [(&str, u64, u64, u8, &str); 21] = [
-        ("", 0, 0, 1, "compsoc: usage\n"),
-        ("alone one.toml a.toml 1", 0, 0, 1, "compsoc: usage\n"),
-        ("alone one.toml a.toml 1 384 5", 0, 0, 1, "compsoc: usage\n"),
-        ("follow one.toml a.toml 1 384", 0, 0, 1, "compsoc: usage\n"),
-        (
-            "alone one.toml a.toml 1 1000000000001",
-            0,
-            0,
-            1,
-            "compsoc: usage\n",
-        ),
-        ("alone one.toml a.toml -1 384", 0, 0, 1, "compsoc: usage\n"),
-        ("alone one.toml a.toml 1 3x4", 0, 0, 1, "compsoc: usage\n"),
-        (
-            "alone no.toml a.toml 1 384",
-            0,
-            0,
-            4,
-            "compsoc: absent no.toml\n",
-        ),
-        (
-            "alone one.toml no.toml 1 384",
-            0,
-            0,
-            4,
-            "compsoc: absent no.toml\n",
-        ),
-        // The platform is judged before the bundle is read.
-        (
-            "alone p4.toml b7.toml 0 8",
-            0,
-            0,
-            2,
-            "compsoc: platform P4\n",
-        ),
-        (
-            "alone p4.toml no.toml 0 8",
-            0,
-            0,
-            2,
-            "compsoc: platform P4\n",
-        ),
-        (
-            "alone one.toml b7.toml 0 8",
-            0,
-            0,
-            3,
-            "compsoc: bundle b7.toml B7\n",
-        ),
-        (
-            "alone long.toml b7.toml 0 8",
-            0,
-            0,
-            2,
-            "compsoc: platform P1\n",
-        ),
-        (
-            "alone one.toml long.toml 0 8",
-            0,
-            0,
-            3,
-            "compsoc: bundle long.toml B1\n",
-        ),
-        (
-            "alone one.toml a.toml 1 384",
-            1,
-            0,
-            5,
-            "compsoc: read one.toml\n",
-        ),
-        (
-            "alone one.toml a.toml 1 384",
-            2,
-            0,
-            5,
-            "compsoc: read a.toml\n",
-        ),
-        ("alone one.toml a.toml 1 384", 0, 1, 6, ""),
-        (
-            "alone one.toml a.toml 1 384",
-            0,
-            2,
-            6,
-            "alone a.toml from 8 to 384\n",
-        ),
-        (
-            "alone one.toml a.toml 1 384",
-            0,
-            4,
-            6,
-            "alone a.toml from 8 to 384\n333 0 word 00000007\npart 0 halt 00000000 at 334 cut 0\n",
-        ),
-        // A failing write of a refusal's line changes no status.
-        ("alone one.toml no.toml 1 384", 0, 1, 4, ""),
-        ("", 0, 1, 1, ""),
-    ];
-    for (line, read, write, status, text) in cases {
-        let mut files = shelf(alloc, &[read], 4_194_305)?;
-        let mut sink = MemSink::new(alloc, 4096, Vec::from_slice(alloc, &[write])?)?;
-        expect_run(&rt, &mut files, &mut sink, alloc, line, status, text)?;
-    }
+/// Runs a line over files, and compares the status and what was written.
+pub fn expect(rt: &impl Abort, alloc: Global, shelf: &[File], row: Row<'_>) -> Result<(), Fail> {
+    let (line, read, write, status, text) = row;
+    let (ended, written) = ran(alloc, shelf, line, read, write)?;
+    assert_eq!(rt; ended, status, "{line} with read {read} and write {write} failing");
+    assert_eq!(rt; written.as_slice(), text.as_bytes(), "{line} with read {read} and write {write} failing");
     Ok(())
 }

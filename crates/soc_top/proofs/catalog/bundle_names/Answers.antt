@@ -4,5 +4,5 @@ use Rattle.soc_top.proofs.catalog.bundle_names.Goals as goal
 
 pub returns : goal.returns
 returns c =
-    named_end c.args.script.now.commands c.as_slice-command-items.result.now c.loop-command.command-index
-    c.loop-command.known.items c.as_slice-command-items.ensures (omega arith) c.loop-command.invariant
+    named_end c.args.scripts.now c.loop-script.script-index c.loop-script.known.items (omega arith)
+    c.loop-script.invariant

@@ -1,10 +1,9 @@
-use Rattle.soc_top.proofs.Endings.{short_of_memory}
-use Rattle.soc_top.proofs.RunEndings.{run_short_of_memory}
+use Rattle.soc_top.proofs.Endings.{alone_short, run_short}
 use Rattle.soc_top.proofs.top.compsoc.Goals as goal
 
 -- without memory for the request, status 7 is what the request's own call may answer
 pub returns-in-Err-NoMemory-clause-alone : goal.returns-in-Err-NoMemory-clause-alone
-returns-in-Err-NoMemory-clause-alone g c = λ request _. short_of_memory _ request c.write_fault.ensures.line
+returns-in-Err-NoMemory-clause-alone g c = λ request _. alone_short _ request c.write_fault.ensures.line
 
 pub returns-in-Err-NoMemory-clause-run : goal.returns-in-Err-NoMemory-clause-run
-returns-in-Err-NoMemory-clause-run g c = λ request _. run_short_of_memory _ request c.write_fault.ensures.line
+returns-in-Err-NoMemory-clause-run g c = λ request _. run_short _ request c.write_fault.ensures.line
