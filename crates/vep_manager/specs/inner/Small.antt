@@ -1,5 +1,5 @@
 -- Short scripts, for tests.
-use Rattle.std.specs.Prelude.{ℕ, ◌<◌, ◌≤◌, ◌^◌, length, All}
+use Rattle.std.specs.Prelude.{◌<◌, ◌≤◌, ◌^◌, length, All}
 use Rattle.script_file.specs.declared.command.Command.{Command}
 use Rattle.script_file.specs.declared.command.Script.{Script}
 use Rattle.vep_manager.specs.Setup.{stated_cycle}
