@@ -11,8 +11,7 @@ use Rattle.vep_manager.specs.declared.setup.Setup.{Setup}
 use Rattle.vep_manager.specs.declared.reply.Reply.{Reply}
 use Rattle.vep_manager.specs.declared.reply.Entry.{Entry}
 use Rattle.vep_manager.specs.Setup.{IsSound, command_count}
-use Rattle.vep_manager.specs.History.{commands_of, count_of, grants_of, horizon_with, horizon_of}
-use Rattle.vep_manager.specs.Replies.{next_entry}
+use Rattle.vep_manager.specs.History.{grants_of, horizon_with, horizon_of}
 use Rattle.vep_manager.specs.Legal.{IsLegal}
 use Rattle.vep_manager.specs.inner.Claims.{HasSmallEnd}
 use Rattle.vep_manager.specs.Granted.{IsEarly}

@@ -7,6 +7,8 @@ pub mod Replied
 pub mod Nexts
 pub mod Standing
 pub mod Settled
+pub mod Horizons
+pub mod Longer
 pub mod Keeping
 pub mod Small
 pub mod Laws

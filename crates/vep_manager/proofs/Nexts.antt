@@ -1,41 +1,33 @@
 -- When a session has a next entry, and which.
-use Rattle.std.proofs.Common.{◌≡◌, ◌≢◌, ℕ, ◌+◌, ◌-◌, ◌<◌, ◌≤◌, ◌⊎◌, inl, inr, Bool, true, false, cond, ◌&&◌, ◌||◌, List, [], ◌∷◌, length, take, Option, Some, None, Result, Ok, Err, max, refl, sym, ap, ap₂, subst, ◌∙◌, arith}
-use Rattle.std.specs.Prelude.{IsNone, ◌↔◌, nat_lt, unwrap_or, IsTrue, IsSome, IsSomeAnd, IfSome, is_some, IsTrue}
-use Rattle.std.specs.List.{All, Contains, find, list_any, slice_get}
+use Rattle.std.proofs.Common.{◌≡◌, ◌≢◌, ℕ, ◌+◌, ◌<◌, inl, inr, true, false, List, [], length, Option, Some, None, Result, Ok, refl, sym, ap, ◌∙◌, arith}
+use Rattle.std.specs.Prelude.{IsNone, ◌↔◌, IsTrue, is_some}
+use Rattle.std.specs.List.{find, slice_get}
 use Rattle.std.specs.Option.{option_map, option_map_or, option_and_then}
-use Rattle.std.proofs.lemmas.Bool.{false≢true, leb-false, leb-true, le-leb, cases_lt}
-use Rattle.std.proofs.lemmas.Option.{cond_some, same_Some, slice_get_cases, slice_get_within, get_or_from_slice_get}
+use Rattle.std.proofs.lemmas.Bool.{false≢true, leb-true, le-leb}
+use Rattle.std.proofs.lemmas.Option.{slice_get_cases}
 use Rattle.std.proofs.lemmas.List.Elements.{All-contains}
-use Rattle.std.proofs.lemmas.Grind.{div_ceil_times}
 use Rattle.soc_base.specs.declared.label.Label.{Label}
 use Rattle.bundle_model.specs.declared.bundle.Bundle.{Bundle}
 use Rattle.bundle_model.specs.declared.rules.BRule.{BRule}
-use Rattle.bundle_model.specs.declared.resource.Resource.{Resource}
 use Rattle.bundle_model.specs.declared.world.Named.{Named}
 use Rattle.bundle_model.specs.declared.world.World.{World}
 use Rattle.bundle_model.specs.declared.world.LoadName.{LoadName}
-use Rattle.bundle_model.specs.declared.world.Grant.{Grant}
-use Rattle.bundle_model.specs.Resources.{resources_of, meets_of}
-use Rattle.bundle_model.specs.Grants.{kept_bundle, bundle_at, grant_resources, lasts_to, conflicts, do_meet, EndsBefore}
+use Rattle.bundle_model.specs.Resources.{resources_of}
+use Rattle.bundle_model.specs.Grants.{kept_bundle, bundle_at}
 use Rattle.bundle_model.specs.World.{same_label}
 use Rattle.script_file.specs.declared.command.Command.{Command}
 use Rattle.script_file.specs.declared.command.Command.TheVariants.{Load, Stop, Until}
-use Rattle.script_file.specs.declared.command.Script.{Script}
 use Rattle.vep_manager.specs.declared.setup.Setup.{Setup}
 use Rattle.vep_manager.specs.declared.reply.Reply.{Reply}
-use Rattle.vep_manager.specs.declared.reply.Reply.TheVariants.{Malformed, Past, Granted, NoLoad, Already, Stopped}
 use Rattle.vep_manager.specs.declared.reply.Entry.{Entry}
-use Rattle.vep_manager.specs.Loads.{loaded_name, loaded_names}
-use Rattle.vep_manager.specs.Setup.{stated_cycle, StatesWithin}
-use Rattle.vep_manager.specs.History.{numbered, is_used_up, granted_slot, commands_of, count_of, end_by, loaded_place, grants_of, horizon_of}
-use Rattle.vep_manager.specs.Replies.{taken_by, first_conflict, load_reply, stop_reply, judged_of, next_label, reply_to, next_entry}
-use Rattle.vep_manager.specs.Granted.{IsEarly}
+use Rattle.vep_manager.specs.Loads.{loaded_name}
+use Rattle.vep_manager.specs.History.{numbered, is_used_up, granted_slot, commands_of}
+use Rattle.vep_manager.specs.Replies.{load_reply, judged_of, next_label, next_entry}
 use Rattle.vep_manager.specs.Manager.{ManagerState}
-use Rattle.vep_manager.specs.inner.Keeping.{opened_by}
-use Rattle.vep_manager.proofs.States.{held, grown, grants_at, horizon_at, commands_at, done_at, label_at, reply_at, next_at, IsNextEntry, loads_before, OneMoreLoad}
-use Rattle.vep_manager.proofs.Lists.{mapped, and_then, found, is_found, not_found}
-use Rattle.vep_manager.proofs.Labels.{label_is, label_same}
-use Rattle.vep_manager.proofs.SetupLemmas.{script_of, numbered_next, loads_next, loads_known, next_is_known}
+use Rattle.vep_manager.proofs.States.{commands_at, done_at, label_at, reply_at, next_at, IsNextEntry}
+use Rattle.vep_manager.proofs.Lists.{found, is_found}
+use Rattle.vep_manager.proofs.Labels.{label_same}
+use Rattle.vep_manager.proofs.SetupLemmas.{numbered_next, loads_known, next_is_known}
 
 -- how the bundle was judged whose load and file were found
 pub judged_found : (setup : Setup) (label : Label) (load : LoadName) (named : Named) (judged : Result Bundle BRule)

@@ -1,10 +1,10 @@
 -- What a reply tells: of a load that it grants, and of a grant that it ends.
-use Rattle.std.proofs.Common.{◌≡◌, ◌≢◌, ℕ, ◌+◌, ◌-◌, ◌<◌, ◌≤◌, ◌⊎◌, inl, inr, Bool, true, false, cond, ◌&&◌, ◌||◌, List, [], ◌∷◌, length, take, Option, Some, None, Result, Ok, Err, max, refl, sym, ap, ap₂, subst, ◌∙◌, arith}
-use Rattle.std.specs.Prelude.{IsNone, ◌↔◌, nat_lt, unwrap_or, IsTrue, IsSome, IsSomeAnd, IfSome, is_some, IsTrue}
+use Rattle.std.proofs.Common.{◌≡◌, ℕ, ◌+◌, ◌-◌, ◌<◌, ◌≤◌, ◌⊎◌, inl, inr, Bool, true, false, cond, ◌&&◌, ◌||◌, List, [], ◌∷◌, Option, Some, None, Result, Ok, Err, max, refl, sym, ap, ap₂, subst, ◌∙◌, arith}
+use Rattle.std.specs.Prelude.{nat_lt, unwrap_or, IsTrue, IsSome, IsSomeAnd, IfSome, is_some}
 use Rattle.std.specs.List.{All, Contains, find, list_any, slice_get}
 use Rattle.std.specs.Option.{option_map, option_map_or, option_and_then}
-use Rattle.std.proofs.lemmas.Bool.{false≢true, leb-false, leb-true, le-leb, cases_lt}
-use Rattle.std.proofs.lemmas.Option.{cond_some, same_Some, slice_get_cases, slice_get_within, get_or_from_slice_get}
+use Rattle.std.proofs.lemmas.Bool.{false≢true, leb-false, ltb-false, cases_lt}
+use Rattle.std.proofs.lemmas.Option.{cond_some, same_Some, slice_get_within, get_or_from_slice_get}
 use Rattle.std.proofs.lemmas.List.Elements.{All-contains}
 use Rattle.std.proofs.lemmas.Grind.{div_ceil_times}
 use Rattle.soc_base.specs.declared.label.Label.{Label}
@@ -25,17 +25,16 @@ use Rattle.vep_manager.specs.declared.setup.Setup.{Setup}
 use Rattle.vep_manager.specs.declared.reply.Reply.{Reply}
 use Rattle.vep_manager.specs.declared.reply.Reply.TheVariants.{Malformed, Past, Granted, NoLoad, Already, Stopped}
 use Rattle.vep_manager.specs.declared.reply.Entry.{Entry}
-use Rattle.vep_manager.specs.Loads.{loaded_name, loaded_names}
 use Rattle.vep_manager.specs.Setup.{stated_cycle, StatesWithin}
-use Rattle.vep_manager.specs.History.{numbered, is_used_up, granted_slot, commands_of, count_of, end_by, loaded_place, grants_of, horizon_of}
-use Rattle.vep_manager.specs.Replies.{taken_by, first_conflict, load_reply, stop_reply, judged_of, next_label, reply_to, next_entry}
+use Rattle.vep_manager.specs.History.{numbered, granted_slot, commands_of, end_by, loaded_place}
+use Rattle.vep_manager.specs.Replies.{taken_by, first_conflict, load_reply, stop_reply, judged_of, next_entry}
 use Rattle.vep_manager.specs.Granted.{IsEarly}
 use Rattle.vep_manager.specs.Manager.{ManagerState}
 use Rattle.vep_manager.specs.inner.Keeping.{opened_by}
-use Rattle.vep_manager.proofs.States.{held, grown, grants_at, horizon_at, commands_at, done_at, label_at, reply_at, next_at, IsNextEntry, loads_before, OneMoreLoad}
-use Rattle.vep_manager.proofs.Lists.{mapped, and_then, found, is_found, not_found}
-use Rattle.vep_manager.proofs.Labels.{label_is, label_same}
-use Rattle.vep_manager.proofs.SetupLemmas.{script_of, numbered_next, loads_next, loads_known, next_is_known}
+use Rattle.vep_manager.proofs.States.{grants_at, horizon_at, commands_at, done_at, label_at, reply_at, IsNextEntry, OneMoreLoad}
+use Rattle.vep_manager.proofs.Lists.{mapped, and_then, found, not_found}
+use Rattle.vep_manager.proofs.Labels.{label_is}
+use Rattle.vep_manager.proofs.SetupLemmas.{script_of, numbered_next, loads_next}
 
 -- a session's next command, and its reply
 pub record IsNext (state : ManagerState) (session : ℕ) (command : Command) (reply : Reply) : Type 0 where
@@ -67,6 +66,7 @@ pub record Opens (state : ManagerState) (limit session : ℕ) (grant : Grant) : 
   pub known : IsSome (bundle_at state.setup.world grant.bundle)
   pub of_loads : Contains state.setup.loads (record { label = grant.label; bundle = grant.bundle })
   pub early : IsEarly state.setup limit grant.start
+  pub later : horizon_at state ≤ grant.start
   pub clear : (one : Grant) → Contains (grants_at state) one → IsTrue (do_meet state.setup.world one grant)
       → EndsBefore one grant
 
@@ -77,6 +77,7 @@ pub record Closes (state : ManagerState) (limit : ℕ) (label : Label) (end : �
   pub named : grant.label ≡ label
   pub after : grant.start ≤ end
   pub early : IsEarly state.setup limit end
+  pub later : horizon_at state ≤ end
 
 pub record Tells (state : ManagerState) (limit session : ℕ) (reply : Reply) : Type 0 where
   pub opens : IfSome (opened_by state.setup reply) (Opens state limit session)
@@ -94,7 +95,7 @@ quiet_tells state limit session reply quiet = record {
   closes = λ label end e. let none = quiet.closes label in cc;
 }
 
-contains_at : {X : Type 0} (xs : List X) (i : ℕ) (x : X) → slice_get xs i ≡ Some x → Contains xs x
+pub contains_at : {X : Type 0} (xs : List X) (i : ℕ) (x : X) → slice_get xs i ≡ Some x → Contains xs x
 contains_at xs i x e = (i, slice_get_within xs i x e, get_or_from_slice_get xs i x x e)
 
 -- the slot for a stated cycle is early
@@ -186,7 +187,7 @@ record IsAsked (state : ManagerState) (limit session : ℕ) (bundle : Bundle) (s
   early : IsEarly state.setup limit start
 
 opens_of : (state : ManagerState) (limit session : ℕ) (bundle : Bundle) (start : ℕ)
-    → IsAsked state limit session bundle start
+    → IsAsked state limit session bundle start → horizon_at state ≤ start
     → first_conflict state.setup.world (grants_at state) start (resources_of state.setup.world.platform bundle) ≡ None
     → Opens state limit session
     (record {
@@ -195,7 +196,7 @@ opens_of : (state : ManagerState) (limit session : ℕ) (bundle : Bundle) (start
       start = start;
       end = None;
     })
-opens_of state limit session bundle start asked free =
+opens_of state limit session bundle start asked later free =
     let label : Label = label_at state session in
     let it = and_then (λ (load : LoadName). option_map (λ (named : Named). named.judged)
     (slice_get state.setup.world.catalog load.bundle))
@@ -227,20 +228,23 @@ opens_of state limit session bundle start asked free =
       known = ap is_some kept;
       of_loads = subst (λ (l : LoadName). Contains state.setup.loads l) same there.1;
       early = asked.early;
+      later = later;
       clear = clear_of state.setup.world (grants_at state) grant
           (ap (first_conflict state.setup.world (grants_at state) start) held ∙ free);
     }
 
-load_tells : (state : ManagerState) (limit session : ℕ) (bundle : Bundle) (start horizon : ℕ) (past : Bool)
-    (o : Option Reply)
-    → IsAsked state limit session bundle start
+load_tells : (state : ManagerState) (limit session : ℕ) (bundle : Bundle) (start : ℕ) (past : Bool) (o : Option Reply)
+    → IsAsked state limit session bundle start → nat_lt start (horizon_at state) ≡ past
     → first_conflict state.setup.world (grants_at state) start (resources_of state.setup.world.platform bundle) ≡ o
-    → Tells state limit session (cond past (Past horizon) (unwrap_or o (Granted (label_at state session) start)))
-load_tells state limit session bundle start horizon true o asked is =
-    quiet_tells state limit session (Past horizon) (record { opens = refl; closes = λ label. refl })
-load_tells state limit session bundle start horizon false None asked is =
-    record { opens = opens_of state limit session bundle start asked is; closes = λ label end e. cc }
-load_tells state limit session bundle start horizon false (Some reply) asked is =
+    → Tells state limit session (cond past (Past (horizon_at state)) (unwrap_or o (Granted (label_at state session) start)))
+load_tells state limit session bundle start true o asked below is =
+    quiet_tells state limit session (Past (horizon_at state)) (record { opens = refl; closes = λ label. refl })
+load_tells state limit session bundle start false None asked below is =
+    record {
+      opens = opens_of state limit session bundle start asked (ltb-false start (horizon_at state) below) is;
+      closes = λ label end e. cc;
+    }
+load_tells state limit session bundle start false (Some reply) asked below is =
     quiet_tells state limit session reply
     (taken_quiet state.setup state.setup.world (grants_at state) start
     (resources_of state.setup.world.platform bundle) reply is)
@@ -252,9 +256,9 @@ judged_tells : (state : ManagerState) (limit session : ℕ) (judged : Result Bun
 judged_tells state limit session (Err rule) start is more early =
     quiet_tells state limit session (Malformed rule) (record { opens = refl; closes = λ label. refl })
 judged_tells state limit session (Ok bundle) start is more early =
-    load_tells state limit session bundle start (horizon_at state) (nat_lt start (horizon_at state))
+    load_tells state limit session bundle start (nat_lt start (horizon_at state))
     (first_conflict state.setup.world (grants_at state) start (resources_of state.setup.world.platform bundle))
-    (record { judged = is; more = more; early = early }) refl
+    (record { judged = is; more = more; early = early }) refl refl
 
 max_is : (a b : ℕ) → (max a b ≡ a) ⊎ (max a b ≡ b)
 max_is a b = elim (cases_lt a b) [ inl low ↦ inr (omega arith) | inr high ↦ inl (omega arith) ]
@@ -271,16 +275,16 @@ max_early setup limit a b one other =
 abbrev pub BeginEarly : ManagerState → ℕ → Type 0
 BeginEarly state limit = All (λ grant. IsEarly state.setup limit grant.start) (grants_at state)
 
-stopped_tells : (state : ManagerState) (limit session horizon slot : ℕ) (grant : Grant) (past : Bool) (end : Option ℕ)
-    → Contains (grants_at state) grant → IsEarly state.setup limit slot → BeginEarly state limit
+stopped_tells : (state : ManagerState) (limit session slot : ℕ) (grant : Grant) (past : Bool) (end : Option ℕ)
+    → nat_lt slot (horizon_at state) ≡ past → Contains (grants_at state) grant → IsEarly state.setup limit slot → BeginEarly state limit
     → Tells state limit session
     (option_map_or (λ end. Already end) end
-    (cond past (Past horizon) (Stopped grant.label (max slot grant.start))))
-stopped_tells state limit session horizon slot grant past (Some end) inside early begun =
+    (cond past (Past (horizon_at state)) (Stopped grant.label (max slot grant.start))))
+stopped_tells state limit session slot grant past (Some end) below inside early begun =
     quiet_tells state limit session (Already end) (record { opens = refl; closes = λ label. refl })
-stopped_tells state limit session horizon slot grant true None inside early begun =
-    quiet_tells state limit session (Past horizon) (record { opens = refl; closes = λ label. refl })
-stopped_tells state limit session horizon slot grant false None inside early begun = record {
+stopped_tells state limit session slot grant true None below inside early begun =
+    quiet_tells state limit session (Past (horizon_at state)) (record { opens = refl; closes = λ label. refl })
+stopped_tells state limit session slot grant false None below inside early begun = record {
   opens = tt;
   closes = λ label end e.
       let is = cond_some (same_label grant.label label) (max slot grant.start) end e in
@@ -292,6 +296,7 @@ stopped_tells state limit session horizon slot grant false None inside early beg
         early = subst (λ (n : ℕ). IsEarly state.setup limit n) is.1
             (max_early state.setup limit slot grant.start early
             (All-contains (λ (g : Grant). IsEarly state.setup limit g.start) (grants_at state) grant begun inside));
+        later = omega (arith, is.1, ltb-false slot (horizon_at state) below);
       };
 }
 
@@ -301,7 +306,7 @@ stop_tells : (state : ManagerState) (limit session slot : ℕ) (label : Label) (
 stop_tells state limit session slot label None is early begun =
     quiet_tells state limit session NoLoad (record { opens = refl; closes = λ label. refl })
 stop_tells state limit session slot label (Some grant) is early begun =
-    stopped_tells state limit session (horizon_at state) slot grant (nat_lt slot (horizon_at state)) grant.end
+    stopped_tells state limit session slot grant (nat_lt slot (horizon_at state)) grant.end refl
     (found (λ (g : Grant). same_label g.label label) (grants_at state) grant is).1 early begun
 
 -- what the reply to a session's next command tells

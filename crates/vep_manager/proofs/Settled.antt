@@ -1,39 +1,28 @@
 -- What follows for the grants and the horizon of a legal history.
-use Rattle.std.proofs.Common.{◌≡◌, ◌≢◌, ℕ, zero, suc, ◌+◌, ◌-◌, ◌<◌, ◌≤◌, ◌⊎◌, inl, inr, true, cond, List, [], ◌∷◌, ◌++◌, length, map, take, get_or, fold, max, min, Option, Some, None, refl, sym, ap, ap₂, subst, ◌∙◌, arith, append_assoc, length-append, eq-eqb}
-use Rattle.std.specs.Prelude.{nat_le, IsTrue, IsSome, IsSomeAnd, IfSome}
-use Rattle.std.specs.List.{All, AllPairs, Contains, slice_get, sum_by, filter_map}
-use Rattle.std.specs.Option.{option_or, option_map_or, option_to_list}
-use Rattle.std.proofs.lemmas.Bool.{le-leb, ne_eqb, cases_lt, cases_eq}
-use Rattle.std.proofs.lemmas.List.{append-nil, length-map, get_or_default}
-use Rattle.std.proofs.lemmas.List.Quantifiers.{all_pairs_push}
+use Rattle.std.proofs.Common.{◌≡◌, ◌≢◌, ℕ, suc, ◌+◌, ◌≤◌, true, cond, List, [], ◌∷◌, length, map, take, get_or, fold, max, min, Option, Some, refl, ap, subst, ◌∙◌, arith}
+use Rattle.std.specs.Prelude.{nat_le}
+use Rattle.std.specs.List.{All, Contains, slice_get, sum_by, filter_map}
+use Rattle.std.specs.Option.{option_map_or}
+use Rattle.std.proofs.lemmas.Bool.{le-leb}
+use Rattle.std.proofs.lemmas.List.{length-map}
 use Rattle.std.proofs.lemmas.List.Sums.{sum_by-cons}
-use Rattle.std.proofs.lemmas.List.Elements.{All-nil, All-head, All-tail, All-push, All-map, All-contains, All-append, Contains-get_or}
-use Rattle.std.proofs.lemmas.Option.{slice_get_within}
+use Rattle.std.proofs.lemmas.List.Elements.{All-head, All-tail, All-map}
 use Rattle.soc_base.specs.declared.limits.TheConstants.{LAST_CYCLE}
-use Rattle.soc_base.specs.declared.label.Label.{Label}
 use Rattle.bundle_model.specs.declared.world.LoadName.{LoadName}
 use Rattle.bundle_model.specs.declared.world.Grant.{Grant}
-use Rattle.bundle_model.specs.Grants.{bundle_at, do_meet, EndsBefore, IsApart}
+use Rattle.bundle_model.specs.Grants.{IsApart}
 use Rattle.bundle_model.specs.World.{AreOfLoads}
-use Rattle.script_file.specs.declared.command.Command.{Command}
 use Rattle.script_file.specs.declared.command.Script.{Script}
 use Rattle.vep_manager.specs.declared.setup.Setup.{Setup}
-use Rattle.vep_manager.specs.declared.reply.Reply.{Reply}
-use Rattle.vep_manager.specs.declared.reply.Reply.TheVariants.{Granted}
 use Rattle.vep_manager.specs.declared.reply.Entry.{Entry}
-use Rattle.vep_manager.specs.Loads.{loaded_names}
-use Rattle.vep_manager.specs.History.{until_slot, promise_of, sessions_of, horizon_of, commands_of, count_of, end_by, end_in, grants_of}
-use Rattle.vep_manager.specs.Replies.{next_label, next_entry}
+use Rattle.vep_manager.specs.History.{until_slot, promise_of, sessions_of, horizon_of, commands_of, count_of, grants_of}
 use Rattle.vep_manager.specs.Setup.{IsSound, StatesWithin, command_count}
 use Rattle.vep_manager.specs.Legal.{IsLegal, IsComplete}
-use Rattle.vep_manager.specs.Granted.{IsEarly, EndsEarly, AreGranted}
+use Rattle.vep_manager.specs.Granted.{AreGranted}
 use Rattle.vep_manager.specs.Manager.{ManagerState}
-use Rattle.vep_manager.specs.inner.Keeping.{ended_by, grants_after, opened_by}
-use Rattle.vep_manager.proofs.States.{held, grown, grants_at, horizon_at, commands_at, done_at, label_at, reply_at, next_at, IsNextEntry, loads_before, OneMoreLoad}
-use Rattle.vep_manager.proofs.Lists.{pairs_map, pairs_none, split_last, fewer}
-use Rattle.vep_manager.proofs.SetupLemmas.{script_of, numbered_next}
-use Rattle.vep_manager.proofs.Growth.{count_of-append, end_in-append, grants_of-append, loads_grow}
-use Rattle.vep_manager.proofs.Replied.{next_command, Opens, Closes, Tells, reply_tells}
+use Rattle.vep_manager.proofs.States.{held, grown, grants_at, IsNextEntry}
+use Rattle.vep_manager.proofs.Lists.{pairs_map, fewer}
+use Rattle.vep_manager.proofs.SetupLemmas.{numbered_next}
 use Rattle.vep_manager.proofs.Standing.{Standing, counts, standing, legal_more}
 
 -- the grants are no more than the loads

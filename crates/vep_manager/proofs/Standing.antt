@@ -1,42 +1,38 @@
 -- What is true of every legal history of a sound setup.
-use Rattle.std.proofs.Common.{◌≡◌, ◌≢◌, ℕ, zero, suc, ◌+◌, ◌-◌, ◌<◌, ◌≤◌, ◌⊎◌, inl, inr, true, cond, List, [], ◌∷◌, ◌++◌, length, map, take, get_or, fold, max, min, Option, Some, None, refl, sym, ap, ap₂, subst, ◌∙◌, arith, append_assoc, length-append, eq-eqb}
-use Rattle.std.specs.Prelude.{nat_le, IsTrue, IsSome, IsSomeAnd, IfSome}
-use Rattle.std.specs.List.{All, AllPairs, Contains, slice_get, sum_by, filter_map}
-use Rattle.std.specs.Option.{option_or, option_map_or, option_to_list}
-use Rattle.std.proofs.lemmas.Bool.{le-leb, ne_eqb, cases_lt, cases_eq}
-use Rattle.std.proofs.lemmas.List.{append-nil, length-map, get_or_default}
+use Rattle.std.proofs.Common.{◌≡◌, ◌≢◌, ℕ, zero, suc, ◌+◌, ◌-◌, ◌<◌, ◌≤◌, ◌⊎◌, inl, inr, cond, List, [], ◌∷◌, ◌++◌, length, map, take, get_or, Option, Some, None, refl, sym, ap, ap₂, subst, ◌∙◌, arith, append_assoc, length-append, eq-eqb}
+use Rattle.std.specs.Prelude.{IsTrue, IsSome, IsSomeAnd, IfSome}
+use Rattle.std.specs.List.{All, AllPairs, Contains, slice_get}
+use Rattle.std.specs.Option.{option_or, option_to_list}
+use Rattle.std.proofs.lemmas.Bool.{ne_eqb, cases_lt, cases_eq}
+use Rattle.std.proofs.lemmas.List.{append-nil, get_or_default}
 use Rattle.std.proofs.lemmas.List.Quantifiers.{all_pairs_push}
-use Rattle.std.proofs.lemmas.List.Sums.{sum_by-cons}
-use Rattle.std.proofs.lemmas.List.Elements.{All-nil, All-head, All-tail, All-push, All-map, All-contains, All-append, Contains-get_or}
+use Rattle.std.proofs.lemmas.List.Elements.{All-nil, All-push, All-map, All-contains, All-append, Contains-get_or}
 use Rattle.std.proofs.lemmas.Option.{slice_get_within}
-use Rattle.soc_base.specs.declared.limits.TheConstants.{LAST_CYCLE}
 use Rattle.soc_base.specs.declared.label.Label.{Label}
-use Rattle.bundle_model.specs.declared.world.LoadName.{LoadName}
 use Rattle.bundle_model.specs.declared.world.Grant.{Grant}
 use Rattle.bundle_model.specs.Grants.{bundle_at, do_meet, EndsBefore, IsApart}
 use Rattle.bundle_model.specs.World.{AreOfLoads}
 use Rattle.script_file.specs.declared.command.Command.{Command}
-use Rattle.script_file.specs.declared.command.Script.{Script}
 use Rattle.vep_manager.specs.declared.setup.Setup.{Setup}
 use Rattle.vep_manager.specs.declared.reply.Reply.{Reply}
 use Rattle.vep_manager.specs.declared.reply.Reply.TheVariants.{Granted}
 use Rattle.vep_manager.specs.declared.reply.Entry.{Entry}
 use Rattle.vep_manager.specs.Loads.{loaded_names}
-use Rattle.vep_manager.specs.History.{until_slot, promise_of, sessions_of, horizon_of, commands_of, count_of, end_by, end_in, grants_of}
-use Rattle.vep_manager.specs.Replies.{next_label, next_entry}
-use Rattle.vep_manager.specs.Setup.{IsSound, StatesWithin, command_count}
-use Rattle.vep_manager.specs.Legal.{IsLegal, IsComplete}
-use Rattle.vep_manager.specs.Granted.{IsEarly, EndsEarly, AreGranted}
+use Rattle.vep_manager.specs.History.{commands_of, count_of, end_by, end_in, grants_of}
+use Rattle.vep_manager.specs.Replies.{next_entry}
+use Rattle.vep_manager.specs.Setup.{StatesWithin}
+use Rattle.vep_manager.specs.Legal.{IsLegal}
+use Rattle.vep_manager.specs.Granted.{IsEarly, EndsEarly}
 use Rattle.vep_manager.specs.Manager.{ManagerState}
 use Rattle.vep_manager.specs.inner.Keeping.{ended_by, grants_after, opened_by}
-use Rattle.vep_manager.proofs.States.{held, grown, grants_at, horizon_at, commands_at, done_at, label_at, reply_at, next_at, IsNextEntry, loads_before, OneMoreLoad}
-use Rattle.vep_manager.proofs.Lists.{pairs_map, pairs_none, split_last, fewer}
-use Rattle.vep_manager.proofs.SetupLemmas.{script_of, numbered_next}
+use Rattle.vep_manager.proofs.States.{held, grown, grants_at, commands_at, done_at, label_at, IsNextEntry, loads_before}
+use Rattle.vep_manager.proofs.Lists.{pairs_map, pairs_none, split_last}
+use Rattle.vep_manager.proofs.SetupLemmas.{script_of}
 use Rattle.vep_manager.proofs.Growth.{count_of-append, end_in-append, grants_of-append, loads_grow}
 use Rattle.vep_manager.proofs.Replied.{next_command, Opens, Closes, Tells, reply_tells}
 
 -- what holds before the first command and is kept by each command holds of a legal history
-go_on : (setup : Setup) (P : List Entry → Type 0)
+pub go_on : (setup : Setup) (P : List Entry → Type 0)
     → ((before : List Entry) (entry : Entry) → next_entry setup before entry.session ≡ Some entry → P before
     → P (before ++ entry ∷ []))
     → (before after : List Entry) → IsLegal setup (before ++ after) → P before → P (before ++ after)
@@ -145,7 +141,7 @@ numbered_more state entry label low =
     omega (arith, low, grows)
 
 -- a fact of each grant after a reply
-all_after : (setup : Setup) (reply : Reply) (o : Option Grant) (grants : List Grant) (Q : Grant → Type 0)
+pub all_after : (setup : Setup) (reply : Reply) (o : Option Grant) (grants : List Grant) (Q : Grant → Type 0)
     → ((k : ℕ) (d : Grant) → k < length grants → Q (ended_by reply (get_or grants k d))) → IfSome o Q
     → All Q (map (ended_by reply) grants ++ option_to_list o)
 all_after setup reply None grants Q old new =
@@ -165,11 +161,11 @@ pairs_after reply (Some grant) grants S stays old new =
     all_pairs_push S (map (ended_by reply) grants) grant (pairs_map S S (ended_by reply) stays grants old)
     (All-map (λ (one : Grant). S one grant) (ended_by reply) grants new)
 
-if_weaker : {X : Type 0} (o : Option X) (P Q : X → Type 0) → ((x : X) → P x → Q x) → IfSome o P → IfSome o Q
+pub if_weaker : {X : Type 0} (o : Option X) (P Q : X → Type 0) → ((x : X) → P x → Q x) → IfSome o P → IfSome o Q
 if_weaker None P Q weaker here = here
 if_weaker (Some x) P Q weaker here = weaker x here
 
-if_from : (o : Option ℕ) (P : ℕ → Type 0) → ((n : ℕ) → o ≡ Some n → P n) → IfSome o P
+pub if_from : (o : Option ℕ) (P : ℕ → Type 0) → ((n : ℕ) → o ≡ Some n → P n) → IfSome o P
 if_from None P from = tt
 if_from (Some n) P from = from n refl
 

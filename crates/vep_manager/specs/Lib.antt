@@ -4,5 +4,6 @@ pub mod History
 pub mod Replies
 pub mod Legal
 pub mod Granted
+pub mod Extended
 pub mod Manager
 pub mod inner

@@ -4,8 +4,9 @@
 //! `specs/Loads` names the load commands of a run, `specs/Setup` says what a sound setup is,
 //! `specs/History` what a history means (grants and horizon), `specs/Replies` what each command is
 //! answered, `specs/Legal` which histories are legal, complete and in rounds, `specs/Granted` what is true of
-//! the grants of a legal history, and `specs/Manager` what contracts see of a manager. `specs/inner` has
-//! what only clauses of private functions cite.
+//! the grants of a legal history, `specs/Extended` what a longer history keeps of a shorter one, and
+//! `specs/Manager` what contracts see of a manager. `specs/inner` has what only clauses of private
+//! functions cite.
 #![tactic(auto)]
 
 /// What each bundle of a catalog holds.
@@ -35,5 +36,6 @@ pub use manager::Manager;
 pub use reply::{Entry, Reply};
 pub use setup::Setup;
 pub use theorems::{
-    complete_histories_are_settled, empty_history_is_legal, legal_grants_are_apart, loads_are_sound,
+    complete_histories_are_settled, empty_history_is_legal, horizons_are_within_the_budget,
+    legal_grants_are_apart, loads_are_sound, longer_histories_keep_grants,
 };

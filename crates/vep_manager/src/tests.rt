@@ -1,10 +1,8 @@
 //! Histories worked out by hand.
 
-/// Setups of small scripts, and checks of their replies.
+/// The catalog and the setup of a run.
 mod fixture;
-/// Loads that are granted, taken and malformed.
-mod loads;
-/// Promises of sessions, and the horizon that they make.
-mod promises;
-/// Stops, and what they free.
-mod stops;
+/// Runs of the commands of a table, and checks of their replies.
+mod runs;
+/// The tables.
+mod tables;

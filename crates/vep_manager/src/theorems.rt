@@ -7,6 +7,7 @@ ghost use Rattle.vep_manager.specs.Setup.{IsSound};
 ghost use Rattle.vep_manager.specs.History.{grants_of};
 ghost use Rattle.vep_manager.specs.Legal.{IsLegal, CompleteIsSettled};
 ghost use Rattle.vep_manager.specs.Granted.{GrantsStayApart, GrantsAreEarly};
+ghost use Rattle.vep_manager.specs.Extended.{LegalHistoriesGoOn, HorizonsAreWithin};
 
 use crate::setup::Setup;
 
@@ -37,4 +38,19 @@ pub fn empty_history_is_legal(_setup: &Setup)
 #[tactic(auto, using(crate::proofs::Settled::horizon_complete))]
 pub fn complete_histories_are_settled(_setup: &Setup)
     ensures { CompleteIsSettled _setup.now }
+{}
+
+/// A legal history of a sound setup keeps what each history that it begins with settled. That history is
+/// legal too, and its horizon is no higher. Its grants keep their places, labels, bundles, starts and
+/// ends, but that an open one may end at its horizon or later, and all further grants begin there or
+/// later.
+pub fn longer_histories_keep_grants(_setup: &Setup)
+    requires { IsSound _setup.now }
+    ensures { LegalHistoriesGoOn _setup.now }
+{}
+
+/// The horizon of every history is at most the budget.
+#[tactic(auto, using(crate::proofs::Horizons::horizon_within))]
+pub fn horizons_are_within_the_budget(_setup: &Setup)
+    ensures { HorizonsAreWithin _setup.now }
 {}

@@ -1,9 +1,8 @@
-use Rattle.std.proofs.Common.{◌≡◌, ◌++◌, ◌∷◌, [], Option, ap, sym, subst, ◌∙◌, rules}
+use Rattle.std.proofs.Common.{Option, sym, subst, ◌∙◌, rules}
 use Rattle.std.specs.Prelude.{IsNone, IsTrue, ◌↔◌}
 use Rattle.bundle_model.specs.Grants.{IsApart}
 use Rattle.vep_manager.specs.declared.reply.Entry.{Entry}
 use Rattle.vep_manager.specs.History.{is_used_up, grants_of}
-use Rattle.vep_manager.specs.Replies.{next_entry}
 use Rattle.soc_base.specs.declared.limits.TheConstants.{LAST_CYCLE}
 use Rattle.vep_manager.specs.Legal.{IsLegal}
 use Rattle.vep_manager.specs.Granted.{AreGranted}

@@ -1,7 +1,7 @@
-use Rattle.std.proofs.Common.{◌≡◌, ℕ, List, length, Some, None, vec_capacity, ap, subst, sym, ◌∙◌, arith}
+use Rattle.std.proofs.Common.{◌≡◌, List, length, Some, None, vec_capacity, ap, subst, sym, ◌∙◌, arith}
 use Rattle.vep_manager.specs.Replies.{next_entry}
 use Rattle.vep_manager.specs.Manager.{ManagerState}
-use Rattle.vep_manager.specs.inner.Keeping.{Known, IsKept, counted}
+use Rattle.vep_manager.specs.inner.Keeping.{Known, counted}
 use Rattle.vep_manager.specs.History.{horizon_with}
 use Rattle.vep_manager.specs.declared.reply.Entry.{Entry}
 use Rattle.vep_manager.proofs.Keeping.{kept_room, kept_space, kept_short, kept_more}
