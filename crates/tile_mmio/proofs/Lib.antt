@@ -1,1 +1,6 @@
 mod Filled
+mod Refusals
+pub mod Own
+pub mod Seen
+pub mod Rest
+pub mod Laws

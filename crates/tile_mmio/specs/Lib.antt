@@ -1,2 +1,4 @@
+pub mod Ports
 pub mod State
 pub mod Part
+pub mod inner

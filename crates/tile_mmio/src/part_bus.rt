@@ -1,49 +1,62 @@
 //! The bus of one part.
 
-ghost use Rattle.std.specs.Prelude.{◌≡◌, ◌%◌, ◌==◌, ◌^◌, ◌≤◌};
-ghost use Rattle.soc_base.specs.Widths.{width_bytes};
-ghost use Rattle.part_model.specs.Answers.{cause_of, memory_answer, device_load};
+ghost use Rattle.std.specs.Prelude.{◌≡◌, ◌≤◌};
+ghost use Rattle.part_model.specs.Answers.{cause_of, memory_answer};
 ghost use Rattle.tile_memory.specs.Bytes.{IsInside};
+ghost use Rattle.tile_mmio.specs.Ports.{AreNumbers};
 
-use part_model::{CYCLE, CYCLEH, DEVICE_BASE, Place, TRACE, trace};
+/// The device registers.
+mod registers;
+
+use ni_port::Port;
+use part_model::{DEVICE_BASE, Place};
 use rv_core::{Answer, Bus, Cause};
 use tile_memory::{MemFault, Region, TileMemory, Width};
-use trace_log::{Kind, PartLog};
+use trace_log::PartLog;
 
 /// The bus of one part in one cycle: addresses below `DEVICE_BASE` are the part's region, and from there
-/// on stand the device registers `TRACE`, which is stored, and `CYCLE` and `CYCLEH`, which are loaded.
+/// on stand the device registers: `TRACE`, `CYCLE` and `CYCLEH`, and those of the part's ports.
 #[derive(Drop)]
 pub struct PartBus<'a> {
     memory: &'a mut TileMemory,
     region: Region,
+    ports: &'a mut [Port],
+    map: &'a [u8],
     log: &'a mut PartLog,
     place: Place,
     cycle: u64,
     ghost inside: { IsInside memory.now region },
+    ghost numbers: { AreNumbers ports.now map.now },
 }
 
 impl<'a> PartBus<'a> {
     ghost use Rattle.tile_mmio.specs.State.{bus_on, bus_state, bus_loans, bus_memory, bus_region};
 
-    /// Makes the bus of a part in a cycle. The part's region lies in the memory; `kinds` is the set of
-    /// kinds of rows that the part names. Takes no memory.
+    /// Makes the bus of a part in a cycle. The part's region lies in the memory; `ports` are the tile's, and
+    /// `map` has the number there of each port of the part, in the part's order; `kinds` is the set of kinds
+    /// of rows that the part names. Takes no memory.
     pub fn new(
         memory: &'a mut TileMemory,
         region: Region,
+        ports: &'a mut [Port],
+        map: &'a [u8],
         log: &'a mut PartLog,
         kinds: u8,
         tile: u8,
         cycle: u64,
     ) -> PartBus<'a>
-        requires { IsInside memory.old region }
-        ensures loans { bus_loans result ≡ (memory.entry.ghost_name, log.entry.ghost_name) }
+        requires inside { IsInside memory.old region }
+        requires numbers { AreNumbers ports.old map.now }
+        ensures loans { bus_loans result ≡ (memory.entry.ghost_name, ports.entry.ghost_name, log.entry.ghost_name) }
         ensures memory { bus_memory result ≡ memory.old }
         ensures region { bus_region result ≡ region }
-        ensures state { bus_state result ≡ bus_on memory.old region log.old tile kinds cycle }
+        ensures state { bus_state result ≡ bus_on memory.old region ports.old map.now log.old tile kinds cycle }
     {
         PartBus {
             memory,
             region,
+            ports,
+            map,
             log,
             place: Place { tile, kinds },
             cycle,
@@ -70,33 +83,6 @@ fn answer(loaded: Result<u32, MemFault>) -> Answer
     }
 }
 
-fn is_aligned(addr: u32, width: Width) -> bool
-    ensures { result ≡ (addr % width_bytes width == 0) }
-{
-    match width {
-        Width::Byte => true,
-        Width::Half => addr % 2 == 0,
-        Width::Word => addr % 4 == 0,
-    }
-}
-
-// What a load from a device register answers.
-fn device_load(cycle: u64, addr: u32, width: Width) -> Answer
-    ensures { result ≡ device_load cycle addr width }
-{
-    if !is_aligned(addr, width) {
-        return Answer::Fault(Cause::Align);
-    }
-    if width != Width::Word {
-        return Answer::Fault(Cause::Access);
-    }
-    match addr {
-        CYCLE => Answer::Done((cycle % 0x1_0000_0000) as u32),
-        CYCLEH => Answer::Done((cycle / 0x1_0000_0000) as u32),
-        _ => Answer::Fault(Cause::Access),
-    }
-}
-
 impl<'a> Bus for PartBus<'a> {
     ghost use Rattle.std.specs.Prelude.{ℕ, List};
     ghost use Rattle.std.specs.Borrow.{GName};
@@ -109,7 +95,7 @@ impl<'a> Bus for PartBus<'a> {
 
     ghost state = { bus_state };
 
-    ghost Kept = { (GName × GName) × Region × List ℕ × List ℕ × ℕ };
+    ghost Kept = { (GName × GName × GName) × Region × List ℕ × List ℕ × ℕ × List ℕ };
 
     ghost kept = { bus_rest };
 
@@ -124,7 +110,7 @@ impl<'a> Bus for PartBus<'a> {
         if addr < DEVICE_BASE {
             return answer(self.memory.load(self.region, addr, width));
         }
-        device_load(self.cycle, addr, width)
+        self.load_device(addr, width)
     }
 
     #[tactic(auto, unfolding(part_model::specs::Answers::store_answer))]
@@ -135,13 +121,6 @@ impl<'a> Bus for PartBus<'a> {
                 Err(fault) => Answer::Fault(cause(fault)),
             };
         }
-        if !is_aligned(addr, width) {
-            return Answer::Fault(Cause::Align);
-        }
-        if addr == TRACE && width == Width::Word {
-            trace(self.log, self.place, self.cycle, Kind::Word, value);
-            return Answer::Done(0);
-        }
-        Answer::Fault(Cause::Access)
+        self.store_device(addr, width, value)
     }
 }
