@@ -1,3 +1,13 @@
+pub mod Twins
+pub mod Marks
+pub mod Claimed
+pub mod Early
+pub mod Raws
+pub mod Flat
+pub mod Paths
+pub mod Ends
+pub mod ClaimPlaces
+pub mod Apart
 pub mod SlotSets
 pub mod Unbroken
 pub mod Listing
@@ -6,4 +16,5 @@ pub mod Keyed
 pub mod Meeting
 pub mod Present
 pub mod Holders
+pub mod Channels
 pub mod Laws

@@ -1,5 +1,5 @@
 -- What a bundle is that breaks no rule on a platform.
-use Rattle.std.specs.Prelude.{◌≡◌, ◌≢◌, ℕ, suc, ◌+◌, ◌*◌, ◌-◌, ◌%◌, ◌^◌, ◌<◌, ◌≤◌, nat_eq, map, length, get_or, slice_get, [], Some, All, AllPairs}
+use Rattle.std.specs.Prelude.{◌≡◌, ◌≢◌, ℕ, suc, ◌+◌, ◌*◌, ◌-◌, ◌%◌, ◌^◌, ◌<◌, ◌≤◌, nat_eq, List, [], map, length, slice_get, Some, All, AllPairs}
 use Rattle.std.specs.List.{IsDistinct}
 use Rattle.platform_model.specs.declared.link.Link.{Link}
 use Rattle.platform_model.specs.declared.platform.Platform.{Platform}
@@ -38,6 +38,13 @@ pub record IsHeldEnd (bundle : Bundle) (end : End) : Type 0 where
   pub index : ℕ
   pub port : slice_get part.ports index ≡ Some end.port
 
+-- a channel of the bundle leaves the port of an end
+pub record IsLeft (bundle : Bundle) (end : End) : Type 0 where
+  pub number : ℕ
+  pub way : Way
+  pub there : slice_get (ways_of bundle) number ≡ Some way
+  pub from : way.from ≡ end
+
 -- The links of a path, from a tile to another: the first leaves the one, each further one leaves the tile
 -- at which the one before ends, and the last ends at the other.
 pub record IsPath (platform : Platform) (from to : ℕ) (path : List ℕ) : Type 0 where
@@ -63,8 +70,8 @@ pub record IsWellFormedWay (platform : Platform) (bundle : Bundle) (way : Way) :
   pub elsewhere : way.from.tile ≢ way.to.tile
 
 -- the bundle breaks no rule on the platform: each part and each channel is as it should be, no two parts
--- stand on one tile, no two channels leave one port or end at one port, and no resource stands twice in the
--- list of those that the bundle holds, which are not too many
+-- stand on one tile, no two channels leave one port or end at one port, each port of a part is left by one,
+-- and no resource stands twice in the list of those that the bundle holds, which are not too many
 pub record IsWellFormed (platform : Platform) (bundle : Bundle) : Type 0 where
   pub some_part : bundle.parts ≢ []
   pub parts : All (IsWellFormedPart platform) bundle.parts
@@ -72,5 +79,6 @@ pub record IsWellFormed (platform : Platform) (bundle : Bundle) : Type 0 where
   pub ways : All (IsWellFormedWay platform bundle) (ways_of bundle)
   pub sources : AllPairs (λ one other. one.from ≢ other.from) (ways_of bundle)
   pub targets : AllPairs (λ one other. one.to ≢ other.to) (ways_of bundle)
+  pub paired : (end : End) → IsHeldEnd bundle end → IsLeft bundle end
   pub distinct : AllPairs (λ one other. one ≢ other) (resources_of platform bundle)
   pub few : length (resources_of platform bundle) ≤ MOST_RESOURCES

@@ -1,17 +1,20 @@
 //! Whether the raw values of a bundle file break a rule, and the least that they break.
 
 ghost use Rattle.std.specs.Prelude.{◌≡◌, ◌*◌, ◌+ℤ◌, pos, int_le};
-ghost use Rattle.std.specs.List.{list_any, list_all};
-ghost use Rattle.bundle_model.specs.Rules.{has_tile, is_slot, ascends, has_slots, has_region, has_image, has_entry, is_kind, has_trace, has_ports, breaks, first_rule};
+ghost use Rattle.std.specs.List.{list_all};
+ghost use Rattle.bundle_model.specs.Rules.{has_tile, is_slot, ascends, has_slots, has_region, has_image, has_entry, is_kind, has_trace};
+ghost use Rattle.bundle_model.specs.inner.Stages.{breaks_early, first_early};
 
+use crate::joined::fit_together;
+use crate::path::have_channels;
 use crate::raw::{RawBundle, RawPart};
 use crate::rules::BRule;
 use platform_model::{Platform, divides, is_between};
 use soc_base::{Likeness, MOST_ROWS, Text, has_twin};
 use trace_log::Kind;
 
-/// The rules of the raw values, in their order.
-const VALUE_RULES: [BRule; 11] = [
+/// The rules that are judged without a list of resources, in their order.
+const EARLY_RULES: [BRule; 9] = [
     BRule::B4,
     BRule::B5,
     BRule::B6,
@@ -21,23 +24,21 @@ const VALUE_RULES: [BRule; 11] = [
     BRule::B10,
     BRule::B11,
     BRule::B12,
-    BRule::B13,
-    BRule::B14,
 ];
 
-/// Answers the least rule of B4 to B14 that the raw values break on a platform.
+/// Answers the least rule of B4 to B12 that the raw values break on a platform.
 pub fn first_broken(raw: &RawBundle, platform: &Platform) -> Option<BRule>
-    ensures { result ≡ first_rule platform.now raw.now }
+    ensures { result ≡ first_early platform.now raw.now }
 {
-    VALUE_RULES
+    EARLY_RULES
         .iter()
         .copied()
         .find(|rule| is_broken(*rule, raw, platform))
 }
 
-// Whether the raw values break a rule on a platform.
+// Whether the raw values break a rule of B4 to B12 on a platform.
 fn is_broken(rule: BRule, raw: &RawBundle, platform: &Platform) -> bool
-    ensures { result ≡ breaks rule platform.now raw.now }
+    ensures { result ≡ breaks_early rule platform.now raw.now }
 {
     let parts = raw.parts.as_slice();
     match rule {
@@ -50,8 +51,9 @@ fn is_broken(rule: BRule, raw: &RawBundle, platform: &Platform) -> bool
         BRule::B8 => !have_images(parts),
         BRule::B9 => !have_entries(parts),
         BRule::B10 => !have_traces(parts),
-        BRule::B11 => have_ports(parts) || raw.pairs.len() != 0,
-        BRule::B12 | BRule::B13 | BRule::B14 => false,
+        BRule::B11 => !fit_together(raw, platform),
+        BRule::B12 => !have_channels(raw.pairs.as_slice(), platform),
+        BRule::B13 | BRule::B14 => false,
         BRule::B1 | BRule::B2 | BRule::B3 => false,
     }
 }
@@ -100,8 +102,9 @@ fn exist(slots: &[i64], platform: &Platform) -> bool
     slots.iter().all(|slot| 0 <= *slot && *slot < count)
 }
 
-// Whether each number is below the next.
-fn ascend(numbers: &[i64]) -> bool
+/// Answers whether each number is below the next. The depth of the recursion is the length of the
+/// ascending beginning.
+pub fn ascend(numbers: &[i64]) -> bool
     ensures { result ≡ ascends numbers.now }
 {
     match numbers {
@@ -228,11 +231,4 @@ impl Likeness<Text> for OneName {
     fn are_alike(one: &Text, other: &Text) -> bool {
         one.as_str() == other.as_str()
     }
-}
-
-// Whether some part holds a port.
-fn have_ports(parts: &[RawPart]) -> bool
-    ensures { result ≡ list_any has_ports parts.now }
-{
-    parts.iter().any(|part| part.ports.len() != 0)
 }

@@ -12,10 +12,20 @@
 mod broken;
 /// The parts and channels of an application.
 mod bundle;
+/// What channel pairs claim of the network.
+mod claims;
+/// Whether a list of resources breaks a rule.
+mod doubled;
+/// Whether ports and channel pairs fit together.
+mod joined;
 /// Judging the raw values of a bundle file.
 mod judge;
+/// Making channel pairs of raw values.
+mod pair;
 /// Making parts of raw values.
 mod part;
+/// Whether channels lead along links.
+mod path;
 /// The values of a bundle file, before they are judged.
 mod raw;
 /// What an application holds of a platform.

@@ -1,7 +1,7 @@
 //! Making the parts of a bundle of the raw values that mean them.
 
-ghost use Rattle.std.specs.Prelude.{◌≡◌, ◌^◌, ◌≤◌, [], pos, nat_abs, map, unwrap_or, IsTrue, IsFalse, IfOk};
-ghost use Rattle.std.specs.List.{list_any, list_all};
+ghost use Rattle.std.specs.Prelude.{◌≡◌, ◌^◌, ◌≤◌, [], pos, nat_abs, map, unwrap_or, IsTrue, IfOk};
+ghost use Rattle.std.specs.List.{list_all};
 ghost use Rattle.platform_model.specs.Limits.{is_within};
 ghost use Rattle.bundle_model.specs.Sets.{slot_set, kind_bit, kind_set, names};
 ghost use Rattle.trace_log.specs.Kinds.{phase_of};
@@ -9,20 +9,21 @@ ghost use Rattle.bundle_model.specs.Rules.{has_tile, is_slot, has_slots, has_reg
 ghost use Rattle.bundle_model.specs.Bundle.{part_of};
 
 use crate::bundle::Part;
+use crate::pair::bytes;
 use crate::raw::RawPart;
 use platform_model::Platform;
 use soc_base::{Items, NoMemory, Region, Text};
 use std::alloc::Global;
 use trace_log::Kind;
 
-/// Makes the parts that raw values mean which keep the rules and hold no port.
+/// Makes the parts that raw values mean which keep the rules.
 pub fn parts_of(alloc: Global, raw: &[RawPart], platform: &Platform) -> Result<Vec<Part>, NoMemory>
     requires tiles { IsTrue (list_all (has_tile platform.now) raw.now) }
     requires slots { IsTrue (list_all (has_slots platform.now) raw.now) }
     requires regions { IsTrue (list_all (has_region platform.now) raw.now) }
     requires entries { IsTrue (list_all has_entry raw.now) }
     requires traces { IsTrue (list_all has_trace raw.now) }
-    requires no_ports { IsFalse (list_any has_ports raw.now) }
+    requires ports { IsTrue (list_all (has_ports platform.now) raw.now) }
     ensures { IfOk result (λ parts. parts.items ≡ map part_of raw.now) }
 {
     let mut parts = Vec::new(alloc);
@@ -39,10 +40,11 @@ fn made(alloc: Global, raw: &RawPart, platform: &Platform) -> Result<Part, NoMem
     requires region { IsTrue (has_region platform.now raw.now) }
     requires entry { IsTrue (has_entry raw.now) }
     requires trace { IsTrue (has_trace raw.now) }
-    requires no_ports { IsFalse (has_ports raw.now) }
+    requires ports { IsTrue (has_ports platform.now raw.now) }
     ensures { IfOk result (λ part. part ≡ part_of raw.now) }
 {
     let image = image(alloc, &raw.image)?;
+    let ports = bytes(alloc, raw.ports.as_slice())?;
     Ok(Part {
         tile: tile(raw, platform),
         slots: slots(raw.slots.as_slice(), platform),
@@ -51,7 +53,7 @@ fn made(alloc: Global, raw: &RawPart, platform: &Platform) -> Result<Part, NoMem
         entry: entry(raw, platform),
         trace: trace(raw),
         kinds: kinds(raw.kinds.as_slice()),
-        ports: Items::new(alloc),
+        ports,
     })
 }
 

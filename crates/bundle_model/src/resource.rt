@@ -1,12 +1,13 @@
 //! What an application holds of a platform.
 
 ghost use Rattle.std.specs.Prelude.{◌≡◌, ◌<◌, ◌+◌, ◌++◌, max, min, map, nat_lt, IfOk, OnOk};
-ghost use Rattle.bundle_model.specs.WellFormed.{IsWellFormed};
-ghost use Rattle.bundle_model.specs.Resources.{part_resources, resources_of, meets_of, shares_byte};
+ghost use Rattle.std.specs.List.{flat_map};
+ghost use Rattle.bundle_model.specs.Resources.{part_resources, pair_resources, resources_of, meets_of, shares_byte};
 ghost use Rattle.soc_base.specs.Slots.{slots_of, slots_at};
 ghost use Rattle.bundle_model.specs.declared.resource.Resource.TheVariants.{Partition, Port};
 
-use crate::bundle::{Bundle, Part};
+use crate::bundle::{Bundle, Pair, Part};
+use crate::claims::add_pair;
 use platform_model::Platform;
 use soc_base::NoMemory;
 use std::alloc::Global;
@@ -94,21 +95,40 @@ fn share_byte(a: &Resource, b: &Resource) -> bool
     }
 }
 
-/// Lists the resources of a bundle that is well-formed for the platform: each part's partition
+/// Lists the resources of a bundle on a platform: each part's partition
 /// slots, its span and its ports, then what each channel pair claims of the network.
 pub fn resources(
     alloc: Global,
     platform: &Platform,
     bundle: &Bundle,
 ) -> Result<Vec<Resource>, NoMemory>
-    requires { IsWellFormed platform.now bundle.now }
     ensures { IfOk result (λ list. list.items ≡ resources_of platform.now bundle.now) }
 {
     let mut list = Vec::new(alloc);
-    for part in bundle.parts.as_slice() {
-        add_part(&mut list, part)?;
-    }
+    add_parts(&mut list, bundle.parts.as_slice())?;
+    add_pairs(&mut list, platform, bundle.pairs.as_slice())?;
     Ok(list)
+}
+
+// Appends what parts hold.
+fn add_parts(list: &mut Vec<Resource>, parts: &[Part]) -> Result<(), NoMemory>
+    ensures { OnOk result (list.new.items ≡ list.old.items ++ flat_map part_resources parts.now) }
+{
+    for part in parts {
+        add_part(list, part)?;
+    }
+    Ok(())
+}
+
+// Appends what channel pairs claim.
+fn add_pairs(list: &mut Vec<Resource>, platform: &Platform, pairs: &[Pair]) -> Result<(), NoMemory>
+    ensures { OnOk result (list.new.items ≡ list.old.items
+        ++ flat_map (pair_resources platform.now.table_slots) pairs.now) }
+{
+    for pair in pairs {
+        add_pair(list, platform, pair)?;
+    }
+    Ok(())
 }
 
 // Appends what a part holds.

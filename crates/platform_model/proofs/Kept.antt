@@ -8,7 +8,7 @@ use Rattle.platform_model.specs.Limits.{is_within, is_multiple}
 use Rattle.soc_base.specs.Twins.{has_twin}
 use Rattle.soc_base.specs.declared.limits.TheConstants.{MOST_TILES, MOST_LINKS, LEAST_MEMORY, MOST_MEMORY, MOST_SLOT_CYCLES, MOST_TABLE_SLOTS, LEAST_KERNEL_CYCLES, MOST_KERNEL_CYCLES, MOST_PARTITION_CYCLES, MOST_PARTITION_SLOTS, MOST_PORTS, MOST_QUEUE}
 use Rattle.platform_model.specs.Links.{raw_link, joins_tiles, has_router_ports, leaves_alike, enters_alike}
-use Rattle.platform_model.specs.Rules.{tiles_built, are_costs, breaks, first_rule}
+use Rattle.platform_model.specs.Rules.{are_costs, breaks, first_rule}
 use Rattle.platform_model.specs.declared.link.Link.{Link}
 use Rattle.platform_model.specs.declared.raw.RawLink.{RawLink}
 use Rattle.platform_model.specs.declared.raw.RawPlatform.{RawPlatform}
@@ -68,7 +68,6 @@ both one other kept = and_parts one other (not-false (one && other) kept)
 pub kept : (raw : RawPlatform) → first_rule raw ≡ None → Kept raw
 kept raw none =
     let u = unbroken raw none in
-    let four = both (is_within raw.tiles (pos 1) (pos MOST_TILES)) (tiles_built raw.tiles) u.p4 in
     let five = both (is_within raw.mem_bytes (pos LEAST_MEMORY) (pos MOST_MEMORY)) (is_multiple raw.mem_bytes (pos 16)) u.p5 in
     let six = both (is_within raw.slot_cycles (pos 1) (pos MOST_SLOT_CYCLES)) (is_within raw.table_slots (pos 1) (pos MOST_TABLE_SLOTS)) u.p6 in
     let seven = both (is_within raw.kernel_cycles (pos LEAST_KERNEL_CYCLES) (pos MOST_KERNEL_CYCLES) && is_within raw.partition_cycles (pos 1) (pos MOST_PARTITION_CYCLES)) (is_within raw.partition_slots (pos 1) (pos MOST_PARTITION_SLOTS)) u.p7 in
@@ -77,7 +76,7 @@ kept raw none =
     let nine = both (nat_le (length raw.links) MOST_LINKS) (list_all (joins_tiles raw.tiles) raw.links) u.p9 in
     let eleven = neither (has_twin leaves_alike raw.links) (has_twin enters_alike raw.links) u.p11 in
     record {
-      tiles = four.0;
+      tiles = not-false (is_within raw.tiles (pos 1) (pos MOST_TILES)) u.p4;
       mem_bytes = five.0;
       aligned = five.1;
       slot_cycles = six.0;

@@ -1,7 +1,6 @@
 -- The rules P4 to P12 over the raw numbers of a platform file, and the least that is broken.
 use Rattle.std.specs.Prelude.{ℤ, pos, Bool, false, not, ◌&&◌, ◌||◌, nat_le, List, [], ◌∷◌, length, Option}
 use Rattle.std.specs.List.{list_all, find}
-use Rattle.std.specs.Ordering.{int_eq}
 use Rattle.platform_model.specs.Limits.{is_within, is_multiple}
 use Rattle.soc_base.specs.Twins.{has_twin}
 use Rattle.soc_base.specs.declared.limits.TheConstants.{MOST_TILES, MOST_LINKS, LEAST_MEMORY, MOST_MEMORY, MOST_SLOT_CYCLES, MOST_TABLE_SLOTS, LEAST_KERNEL_CYCLES, MOST_KERNEL_CYCLES, MOST_PARTITION_CYCLES, MOST_PARTITION_SLOTS, MOST_PORTS, MOST_QUEUE, MOST_COST}
@@ -10,10 +9,6 @@ use Rattle.platform_model.specs.declared.raw.RawCosts.{RawCosts}
 use Rattle.platform_model.specs.declared.raw.RawPlatform.{RawPlatform}
 use Rattle.platform_model.specs.declared.rules.PRule.{PRule}
 use Rattle.platform_model.specs.declared.rules.PRule.TheVariants.{P1, P2, P3, P4, P5, P6, P7, P8, P9, P10, P11, P12}
-
--- the numbers of tiles that are emulated: platforms of more than one tile come with the network
-abbrev pub tiles_built : ℤ → Bool
-tiles_built tiles = int_eq tiles (pos 1)
 
 -- the bytes that a tile's memory may have
 abbrev pub is_memory : ℤ → Bool
@@ -39,7 +34,7 @@ are_costs costs =
 
 -- whether the raw numbers break a rule; P1 to P3 speak of the file alone
 abbrev pub breaks : PRule → RawPlatform → Bool
-breaks P4 raw = not (is_within raw.tiles (pos 1) (pos MOST_TILES) && tiles_built raw.tiles)
+breaks P4 raw = not (is_within raw.tiles (pos 1) (pos MOST_TILES))
 breaks P5 raw = not (is_memory raw.mem_bytes)
 breaks P6 raw =
     not (is_within raw.slot_cycles (pos 1) (pos MOST_SLOT_CYCLES)

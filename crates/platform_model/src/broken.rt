@@ -4,7 +4,7 @@ ghost use Rattle.std.specs.Prelude.{◌≡◌, ◌||◌};
 ghost use Rattle.std.specs.List.{list_all};
 ghost use Rattle.soc_base.specs.Twins.{has_twin};
 ghost use Rattle.platform_model.specs.Links.{joins_tiles, is_router_port, has_router_ports, leaves_alike, enters_alike};
-ghost use Rattle.platform_model.specs.Rules.{tiles_built, is_memory, is_frame, are_costs, breaks, first_rule};
+ghost use Rattle.platform_model.specs.Rules.{is_memory, is_frame, are_costs, breaks, first_rule};
 
 use crate::range::{divides, is_between};
 use crate::raw::{RawCosts, RawLink, RawPlatform};
@@ -43,7 +43,7 @@ fn is_broken(rule: PRule, raw: &RawPlatform) -> bool
     ensures { result ≡ breaks rule raw.now }
 {
     match rule {
-        PRule::P4 => !(is_between(raw.tiles, 1, i64::from(MOST_TILES)) && is_built(raw.tiles)),
+        PRule::P4 => !is_between(raw.tiles, 1, i64::from(MOST_TILES)),
         PRule::P5 => !is_memory(raw.mem_bytes),
         PRule::P6 => {
             !(is_between(raw.slot_cycles, 1, i64::from(MOST_SLOT_CYCLES))
@@ -81,13 +81,6 @@ fn is_frame(raw: &RawPlatform) -> bool
     is_between(raw.kernel_cycles, kernel.0, kernel.1)
         && is_between(raw.partition_cycles, 1, i64::from(MOST_PARTITION_CYCLES))
         && is_between(raw.partition_slots, 1, i64::from(MOST_PARTITION_SLOTS))
-}
-
-// Whether platforms of so many tiles are emulated.
-fn is_built(tiles: i64) -> bool
-    ensures { result ≡ tiles_built tiles }
-{
-    tiles == 1
 }
 
 // Whether each link leads from one of so many tiles to another.
@@ -169,69 +162,4 @@ fn are_in_range(costs: &RawCosts) -> bool
     ];
     all.iter()
         .all(|cost| is_between(*cost, 1, i64::from(MOST_COST)))
-}
-
-#[cfg(test)]
-mod tests {
-    use super::*;
-    use soc_base::Items;
-    use std::test::Fail;
-
-    fn link(numbers: [i64; 4]) -> RawLink {
-        RawLink {
-            from: numbers[0],
-            out: numbers[1],
-            to: numbers[2],
-            input: numbers[3],
-        }
-    }
-
-    #[test]
-    fn judges_links(rt: HostRuntime) {
-        // two links, and whether on two tiles each joins tiles, each has a router's ports, two
-        // leave alike and two enter alike
-        let cases = [
-            ([0, 0, 1, 6], [1, 6, 0, 0], [true, true, false, false]),
-            ([0, 0, 2, 6], [1, 6, 0, 0], [false, true, false, false]),
-            ([-1, 0, 1, 6], [1, 6, 0, 0], [false, true, false, false]),
-            ([0, 0, 1, 6], [1, 6, 1, 0], [false, true, false, false]),
-            ([0, 7, 1, 6], [1, 6, 0, 0], [true, false, false, false]),
-            ([0, 0, 1, -1], [1, 6, 0, 0], [true, false, false, false]),
-            ([0, 3, 1, 6], [0, 3, 1, 5], [true, true, true, false]),
-            ([0, 3, 1, 6], [0, 4, 1, 6], [true, true, false, true]),
-            ([0, 3, 1, 3], [1, 3, 0, 3], [true, true, false, false]),
-        ];
-        for (one, other, [joined, within, left, entered]) in cases {
-            let links = [link(one), link(other)];
-            assert_eq!(rt; join_tiles(2, &links), joined, "at {one:?} {other:?}");
-            assert_eq!(rt; have_router_ports(&links), within, "at {one:?} {other:?}");
-            assert_eq!(rt;
-                has_twin::<RawLink, Leaving>(&links),
-                left,
-                "at {one:?} {other:?}"
-            );
-            assert_eq!(rt;
-                has_twin::<RawLink, Entering>(&links),
-                entered,
-                "at {one:?} {other:?}"
-            );
-        }
-    }
-
-    #[test]
-    fn counts_links(rt: HostRuntime) -> Result<(), Fail> {
-        for (count, broken) in [(128, false), (129, true)] {
-            let mut links = Items::new(rt.alloc());
-            for _ in 0..count {
-                links.push(link([0, 0, 1, 0]))?;
-            }
-            let raw = RawPlatform {
-                tiles: 2,
-                links,
-                ..RawPlatform::plain(rt.alloc())
-            };
-            assert_eq!(rt; is_broken(PRule::P9, &raw), broken, "at {count}");
-        }
-        Ok(())
-    }
 }

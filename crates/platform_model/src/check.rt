@@ -164,6 +164,11 @@ mod tests {
     // The numbers of the plain platform, in the order of the file.
     const NUMBERS: [i64; 9] = [1, 4096, 8, 8, 72, 56, 2, 2, 8];
 
+    // The links of a platform of two tiles and of one of three: `from`, `out`, `to` and `input` of each.
+    const TWO: [[i64; 4]; 2] = [[0, 0, 1, 0], [1, 0, 0, 0]];
+
+    const THREE: [[i64; 4]; 4] = [[0, 0, 1, 0], [1, 0, 2, 0], [2, 0, 1, 1], [1, 1, 0, 0]];
+
     fn raw(alloc: Global, numbers: [i64; 9], costs: RawCosts) -> RawPlatform {
         RawPlatform {
             tiles: numbers[0],
@@ -180,6 +185,23 @@ mod tests {
         }
     }
 
+    // So many tiles with these links, and else the plain platform's numbers.
+    fn linked(alloc: Global, tiles: i64, links: &[[i64; 4]]) -> Result<RawPlatform, Fail> {
+        let mut raw_links = Items::new(alloc);
+        for [from, out, to, input] in links.iter().copied() {
+            raw_links.push(RawLink {
+                from,
+                out,
+                to,
+                input,
+            })?;
+        }
+        let mut raw = raw(alloc, NUMBERS, DEFAULT_COSTS);
+        raw.tiles = tiles;
+        raw.links = raw_links;
+        Ok(raw)
+    }
+
     // The rule that a platform's file breaks, if it breaks one.
     fn judged(alloc: Global, raw: &RawPlatform) -> Result<Option<PRule>, Fail> {
         match Platform::check(alloc, raw) {
@@ -191,9 +213,12 @@ mod tests {
 
     #[test]
     fn keeps_the_numbers(rt: HostRuntime) -> Result<(), Fail> {
-        let raw = raw(rt.alloc(), [1, 4096, 8, 9, 72, 56, 2, 3, 7], DEFAULT_COSTS);
+        let mut raw = linked(rt.alloc(), 3, &THREE)?;
+        raw.table_slots = 9;
+        raw.ports = 3;
+        raw.queue = 7;
         let platform = Platform::check(rt.alloc(), &raw)?;
-        assert_eq!(rt; platform.tiles, 1);
+        assert_eq!(rt; platform.tiles, 3);
         assert_eq!(rt; platform.mem_bytes, 4096);
         assert_eq!(rt; platform.slot_cycles, 8);
         assert_eq!(rt; platform.table_slots, 9);
@@ -202,7 +227,9 @@ mod tests {
         assert_eq!(rt; platform.partition_slots, 2);
         assert_eq!(rt; platform.ports, 3);
         assert_eq!(rt; platform.queue, 7);
-        assert!(rt; platform.links.is_empty());
+        assert_eq!(rt; platform.links.len(), 4);
+        let link = platform.links.get(2).ok_or("no link")?;
+        assert_eq!(rt; (link.from, link.out, link.to, link.input), (2, 0, 1, 1));
         assert_eq!(rt; platform.costs.div, 34);
         assert_eq!(rt; platform.costs.device, 4);
         Ok(())
@@ -212,8 +239,11 @@ mod tests {
     fn judges_numbers(rt: HostRuntime) -> Result<(), Fail> {
         // a number's place, its value and the rule that it breaks
         let cases = [
+            (0, -1, Some(PRule::P4)),
             (0, 0, Some(PRule::P4)),
-            (0, 2, Some(PRule::P4)),
+            (0, 1, None),
+            (0, 2, None),
+            (0, 32, None),
             (0, 33, Some(PRule::P4)),
             (1, 0, Some(PRule::P5)),
             (1, 16, None),
@@ -267,6 +297,50 @@ mod tests {
             (raw(rt.alloc(), numbers, high), Some(PRule::P5)),
         ] {
             assert_eq!(rt; judged(rt.alloc(), &raw)?, rule);
+        }
+        Ok(())
+    }
+
+    #[test]
+    fn judges_links(rt: HostRuntime) -> Result<(), Fail> {
+        // tiles, links and the rule that they break
+        let cases: [(i64, &[[i64; 4]], Option<PRule>); 18] = [
+            (2, &TWO, None),
+            (32, &TWO, None),
+            (3, &THREE, None),
+            (2, &[[0, 3, 1, 3], [1, 3, 0, 3]], None),
+            (2, &[[0, 6, 1, 6], [1, 0, 0, 0]], None),
+            (33, &[[0, 0, 33, 7]], Some(PRule::P4)),
+            (1, &TWO, Some(PRule::P9)),
+            (2, &THREE, Some(PRule::P9)),
+            (2, &[[-1, 0, 1, 6]], Some(PRule::P9)),
+            (2, &[[0, 0, -1, 6]], Some(PRule::P9)),
+            (2, &[[0, 0, 1, 6], [1, 6, 1, 0]], Some(PRule::P9)),
+            (2, &[[0, 7, 2, 0]], Some(PRule::P9)),
+            (2, &[[0, 7, 1, 6]], Some(PRule::P10)),
+            (2, &[[0, 0, 1, 7]], Some(PRule::P10)),
+            (2, &[[0, 0, 1, -1]], Some(PRule::P10)),
+            (2, &[[0, 7, 1, 6], [0, 7, 1, 5]], Some(PRule::P10)),
+            (2, &[[0, 3, 1, 6], [0, 3, 1, 5]], Some(PRule::P11)),
+            (2, &[[0, 3, 1, 6], [0, 4, 1, 6]], Some(PRule::P11)),
+        ];
+        for (tiles, links, rule) in cases {
+            let raw = linked(rt.alloc(), tiles, links)?;
+            assert_eq!(rt; judged(rt.alloc(), &raw)?, rule, "{tiles} tiles, {links:?}");
+        }
+        Ok(())
+    }
+
+    #[test]
+    fn counts_links(rt: HostRuntime) -> Result<(), Fail> {
+        // so many links in rings of 32 tiles, and the rule that they break
+        for (count, rule) in [(64, None), (128, None), (129, Some(PRule::P9))] {
+            let mut links = Vec::new(rt.alloc());
+            for i in 0i64..count {
+                links.push([i % 32, i / 32, (i + 1) % 32, i / 32])?;
+            }
+            let raw = linked(rt.alloc(), 32, &links)?;
+            assert_eq!(rt; judged(rt.alloc(), &raw)?, rule, "{count} links");
         }
         Ok(())
     }

@@ -1,7 +1,0 @@
-use Rattle.std.proofs.Common.{◌≡◌, take}
-use Rattle.std.specs.List.{flat_map}
-use Rattle.bundle_model.specs.Resources.{part_resources}
-use Rattle.bundle_model.proofs.resource.resources.Given as goal
-
-abbrev pub invariant-loop-part : goal.invariant-loop-part
-invariant-loop-part l = l.list.items ≡ flat_map part_resources (take l.part-index l.part-items)
