@@ -1,4 +1,5 @@
 pub mod Stretches
 pub mod Keeping
+pub mod Ports
 pub mod Shapes
 pub mod Laws

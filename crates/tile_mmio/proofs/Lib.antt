@@ -1,4 +1,5 @@
 mod Filled
+mod TwoPorts
 mod Refusals
 pub mod Own
 pub mod Seen

@@ -1,9 +1,9 @@
 -- The ports of a part among those of its tile.
-use Rattle.std.proofs.Common.{◌≡◌, ℕ, zero, suc, ◌<◌, ◌≤◌, ⊎_elim, nat_eq, List, [], ◌∷◌, length, map, get_or, replicate, slice_get, slice_set, Some, refl, sym, ap, ◌∙◌, arith}
+use Rattle.std.proofs.Common.{◌≡◌, ℕ, zero, suc, ◌<◌, ◌≤◌, ⊎_elim, nat_eq, List, [], ◌∷◌, length, map, get_or, replicate, slice_get, slice_set, Some, refl, sym, ap, ap₂, ◌∙◌, arith}
 use Rattle.std.specs.List.{range_with_len}
 use Rattle.std.proofs.lemmas.List.{set-set, set_comm, set-get_or, get_or-set_same, get_or-set_other, get_or-map, length-map, length-set, length-replicate, same_lists}
 use Rattle.std.proofs.lemmas.List.FromFn.{fill_by_all}
-use Rattle.std.proofs.lemmas.Map.Keys.{apart_from_distinct}
+use Rattle.std.proofs.lemmas.Map.Keys.{apart_from_distinct, IsDistinct-tail}
 use Rattle.std.proofs.lemmas.Option.{none-some, same_Some, slice_get_within, get_or_from_slice_get}
 use Rattle.std.proofs.lemmas.Bool.{cases_eq, cases_lt}
 use Rattle.std.proofs.lemmas.Bool.Decides.{nat_tests}
@@ -60,7 +60,7 @@ pub length-own_ports : (ports : List SizedPort) (numbers : List ℕ) → length 
 unfolding own_ports
 length-own_ports ports numbers = length-map numbers (λ number. get_or ports number no_port)
 
-length-put_ports : (ports : List SizedPort) (numbers : List ℕ) (own : List SizedPort) → length (put_ports ports numbers own) ≡ length ports
+pub length-put_ports : (ports : List SizedPort) (numbers : List ℕ) (own : List SizedPort) → length (put_ports ports numbers own) ≡ length ports
 unfolding put_ports
 length-put_ports ports [] own = refl
 length-put_ports ports (n ∷ numbers) [] = refl
@@ -152,3 +152,42 @@ pub own_all : (ports : List SizedPort) → own_ports ports (range_with_len 0 (le
 unfolding own_ports
 own_all ports =
     sym (fill_by_all (λ (number : ℕ). get_or ports number no_port) ports (length ports) no_port refl (λ k below. refl))
+
+-- the tile's port of another number than these
+pub put_elsewhere : (ports : List SizedPort) (numbers : List ℕ) (own : List SizedPort) (number : ℕ) (d : SizedPort)
+    → ((k : ℕ) → k < length numbers → get_or numbers k 0 ≡ number → ⊥)
+    → get_or (put_ports ports numbers own) number d ≡ get_or ports number d
+unfolding put_ports
+put_elsewhere ports [] own number d apart = refl
+put_elsewhere ports (n ∷ numbers) [] number d apart = refl
+put_elsewhere ports (n ∷ numbers) (port ∷ own) number d apart =
+    put_elsewhere (slice_set ports n port) numbers own number d (λ k below. apart (suc k) (omega (arith, below)))
+    ∙ get_or-set_other ports n number port d (λ same. apart 0 (omega arith) (sym same))
+
+-- own ports that were put in their places are the part's
+pub own_put : (ports : List SizedPort) (numbers : List ℕ) (own : List SizedPort) → AreOwn ports numbers → length own ≡ length numbers
+    → own_ports (put_ports ports numbers own) numbers ≡ own
+unfolding own_ports put_ports
+own_put ports [] [] are size = refl
+own_put ports [] (port ∷ own) are size = absurd (omega (arith, size))
+own_put ports (n ∷ numbers) [] are size = absurd (omega (arith, size))
+own_put ports (n ∷ numbers) (port ∷ own) are size =
+    let inside : n < length ports = are.within 0 0 (omega arith) in
+    let apart : (k : ℕ) → k < length numbers → get_or numbers k 0 ≡ n → ⊥
+    = λ k below same. no_twin ports (n ∷ numbers) (suc k) 0 are (omega (arith, below)) (omega arith) (λ e. absurd (omega (arith, e))) same in
+    let rest : AreOwn (slice_set ports n port) numbers = record {
+      within = λ k d below. rw (length-set ports n port) (are.within (suc k) d (omega (arith, below)));
+      apart = IsDistinct-tail nat_eq n numbers are.apart;
+    } in
+    let first = put_elsewhere (slice_set ports n port) numbers own n no_port apart ∙ get_or-set_same ports n port no_port inside in
+    ap₂ (λ (p : SizedPort) (ps : List SizedPort). p ∷ ps) first (own_put (slice_set ports n port) numbers own rest (omega (arith, size)))
+
+-- ports of another part of the tile
+pub others_own : (ports : List SizedPort) (numbers : List ℕ) (own : List SizedPort) (theirs : List ℕ)
+    → ((k j : ℕ) → k < length numbers → j < length theirs → get_or numbers k 0 ≡ get_or theirs j 0 → ⊥)
+    → own_ports (put_ports ports numbers own) theirs ≡ own_ports ports theirs
+unfolding own_ports
+others_own ports numbers own [] apart = refl
+others_own ports numbers own (n ∷ theirs) apart =
+    let first = put_elsewhere ports numbers own n no_port (λ k below. apart k 0 below (omega arith)) in
+    ap₂ (λ (p : SizedPort) (ps : List SizedPort). p ∷ ps) first (others_own ports numbers own theirs (λ k j below within. apart k (suc j) below (omega (arith, within))))

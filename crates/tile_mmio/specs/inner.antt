@@ -1,3 +1,3 @@
 -- Words of clauses between the functions of a part's bus, and between those of its cycles.
-pub mod Numbered
+pub mod TilePort
 pub mod Acting

@@ -1,17 +1,19 @@
-//! Accesses and cycles of a part, with answers that were worked out by hand.
+//! Accesses of a part, with answers that were worked out by hand.
 
-ghost use Rattle.std.specs.Prelude.{◌≡◌, length, IfOk};
+ghost use Rattle.std.specs.Prelude.{◌≡◌, ◌<◌, ◌≤◌, length, IfOk};
+
+/// Cycles.
+mod cycles;
 
 use crate::part_bus::PartBus;
-use crate::run::PartOnTile;
-use part_model::Place;
-use platform_model::Platform;
-use rv_core::{Answer, Bus, Cause, Regs};
-use soc_base::NoMemory;
+use ni_port::Port;
+use rv_core::{Answer, Bus, Cause};
+use soc_base::{Flit, NoMemory};
 use std::alloc::Global;
+use std::process::Abort;
 use std::test::Fail;
 use tile_memory::{Region, TileMemory, Width};
-use trace_log::{Kind, PartEnd, PartLog, TraceRow};
+use trace_log::{Kind, PartLog, TraceRow};
 
 const ALIGN: Answer = Answer::Fault(Cause::Align);
 
@@ -22,6 +24,12 @@ const LATE: u64 = 0x5_0000_0102;
 
 // The part's region: 32 bytes after the first 16 of its tile's 64.
 const REGION: Region = Region { base: 16, len: 32 };
+
+// A region without bytes.
+const NOWHERE: Region = Region { base: 0, len: 0 };
+
+// The numbers of the part's ports among the six of its tile.
+const MAP: [u8; 2] = [2, 5];
 
 #[derive(Clone, Copy, Debug)]
 enum Access {
@@ -40,7 +48,7 @@ fn store(addr: u32, width: Width, value: u32) -> Access {
 
 // A tile's memory of 64 bytes: a program and zeros in the part's region, and ones around it.
 #[tactic(auto, using(crate::proofs::Filled::filled_size))]
-fn tile(alloc: Global) -> Result<TileMemory, NoMemory>
+fn tile(alloc: Global, program: [u32; 4]) -> Result<TileMemory, NoMemory>
     ensures { IfOk result (λ memory. length memory ≡ 64) }
 {
     let image = [
@@ -48,10 +56,10 @@ fn tile(alloc: Global) -> Result<TileMemory, NoMemory>
         0xffff_ffff,
         0xffff_ffff,
         0xffff_ffff,
-        0x0070_0293, // addi x5, x0, 7
-        0x8000_0337, // lui x6, 0x80000
-        0x0053_2023, // sw x5, 0(x6)
-        0x0000_0073, // ecall
+        program[0],
+        program[1],
+        program[2],
+        program[3],
         0,
         0,
         0,
@@ -64,6 +72,36 @@ fn tile(alloc: Global) -> Result<TileMemory, NoMemory>
     let mut memory = TileMemory::new(alloc, 64)?;
     memory.fill(Region { base: 0, len: 64 }, &image);
     Ok(memory)
+}
+
+// Stores 7 to TRACE, and halts.
+const TRACES: [u32; 4] = [
+    0x0070_0293, // addi x5, x0, 7
+    0x8000_0337, // lui x6, 0x80000
+    0x0053_2023, // sw x5, 0(x6)
+    0x0000_0073, // ecall
+];
+
+// The ports of a tile, with queues of so many words.
+fn ports(alloc: Global, queue: u8) -> Result<[Port; 6], NoMemory>
+    requires some { 0 < queue }
+    requires most { queue ≤ 63 }
+{
+    Ok([
+        Port::new(alloc, queue)?,
+        Port::new(alloc, queue)?,
+        Port::new(alloc, queue)?,
+        Port::new(alloc, queue)?,
+        Port::new(alloc, queue)?,
+        Port::new(alloc, queue)?,
+    ])
+}
+
+// A word and credits reach a port.
+fn deliver(port: &mut Port, word: Option<u32>, credits: u8)
+    requires { credits ≤ 63 }
+{
+    port.deliver(Flit { word, credits });
 }
 
 // What a bus answers. A fetch answers a stall where there is no word.
@@ -85,7 +123,21 @@ fn answered(memory: &mut TileMemory, log: &mut PartLog, kinds: u8, access: Acces
     requires { length memory.old ≡ 64 }
     ensures { length memory.new ≡ 64 }
 {
-    let mut bus = PartBus::new(memory, REGION, log, kinds, 3, LATE);
+    let mut bus = PartBus::new(memory, REGION, &mut [], &[], log, kinds, 3, LATE);
+    probe(&mut bus, access)
+}
+
+// What the bus of a part on tile 3 with ports 2 and 5 answers late.
+fn port_answered(
+    memory: &mut TileMemory,
+    ports: &mut [Port],
+    log: &mut PartLog,
+    kinds: u8,
+    access: Access,
+) -> Answer
+    requires { 5 < length ports.old }
+{
+    let mut bus = PartBus::new(memory, NOWHERE, ports, &MAP, log, kinds, 3, LATE);
     probe(&mut bus, access)
 }
 
@@ -100,7 +152,7 @@ fn row(cycle: u64, kind: Kind, value: u32) -> TraceRow {
 
 #[test]
 fn answers_accesses(rt: HostRuntime) -> Result<(), Fail> {
-    let mut memory = tile(rt.alloc())?;
+    let mut memory = tile(rt.alloc(), TRACES)?;
     let mut log = PartLog::new(rt.alloc(), 4)?;
     // The accesses in order, and what is answered.
     let cases = [
@@ -162,52 +214,127 @@ fn answers_accesses(rt: HostRuntime) -> Result<(), Fail> {
     Ok(())
 }
 
+// The registers of a port, loaded and stored in order, and what is answered.
 #[test]
-fn runs_a_program(rt: HostRuntime) -> Result<(), Fail> {
-    let platform = Platform::plain(rt.alloc())?;
-    let place = Place {
-        tile: 3,
-        kinds: 0b1001,
-    };
-    let mut memory = tile(rt.alloc())?;
+fn answers_port_registers(rt: HostRuntime) -> Result<(), Fail> {
+    let mut memory = TileMemory::new(rt.alloc(), 64)?;
+    let mut ports = ports(rt.alloc(), 2)?;
     let mut log = PartLog::new(rt.alloc(), 8)?;
-    let mut regs = Regs::new(0);
-    let mut left = 0;
-    // The first cycle of a stretch and how many it has, and the cycles that are left and pc after it: a
-    // store to a device register has 4.
-    let cases: [(u32, u32, u8, u32); 6] = [
-        (100, 1, 0, 4),
-        (101, 2, 3, 8),
-        (103, 2, 1, 8),
-        (105, 1, 0, 12),
-        (106, 0, 0, 12),
-        (106, 9, 0, 12),
+    deliver(&mut ports[2], Some(30), 0);
+    deliver(&mut ports[5], Some(40), 0);
+    deliver(&mut ports[5], Some(41), 0);
+    let cases = [
+        (load(0x8000_00fc, Width::Word), ACCESS),
+        (store(0x8000_00fc, Width::Word, 1), ACCESS),
+        // the first port is sent to until it is full
+        (load(0x8000_0100, Width::Word), ACCESS),
+        (load(0x8000_0108, Width::Word), Answer::Done(2)),
+        (store(0x8000_0100, Width::Word, 7), Answer::Done(0)),
+        (load(0x8000_0108, Width::Word), Answer::Done(1)),
+        (store(0x8000_0100, Width::Word, 8), Answer::Done(0)),
+        (load(0x8000_0108, Width::Word), Answer::Done(0)),
+        (store(0x8000_0100, Width::Word, 9), Answer::Stall),
+        (load(0x8000_0108, Width::Word), Answer::Done(0)),
+        // and its word is taken
+        (load(0x8000_010c, Width::Word), Answer::Done(1)),
+        (load(0x8000_0104, Width::Word), Answer::Done(30)),
+        (load(0x8000_010c, Width::Word), Answer::Done(0)),
+        (load(0x8000_0104, Width::Word), Answer::Stall),
+        (store(0x8000_0104, Width::Word, 1), ACCESS),
+        (store(0x8000_0108, Width::Word, 1), ACCESS),
+        (store(0x8000_010c, Width::Word, 1), ACCESS),
+        // the second port is the tile's port 5
+        (load(0x8000_0118, Width::Word), Answer::Done(2)),
+        (store(0x8000_0110, Width::Word, 50), Answer::Done(0)),
+        (load(0x8000_0118, Width::Word), Answer::Done(1)),
+        (load(0x8000_011c, Width::Word), Answer::Done(2)),
+        (load(0x8000_0114, Width::Word), Answer::Done(40)),
+        (load(0x8000_011c, Width::Word), Answer::Done(1)),
+        // the part has no third
+        (store(0x8000_0120, Width::Word, 1), ACCESS),
+        (load(0x8000_0124, Width::Word), ACCESS),
+        (load(0x8000_0128, Width::Word), ACCESS),
+        (load(0x8000_012c, Width::Word), ACCESS),
+        (store(0xffff_fff0, Width::Word, 1), ACCESS),
+        (load(0xffff_fff8, Width::Word), ACCESS),
     ];
-    for (cycle, count, cycles_left, pc) in cases {
-        let mut part = PartOnTile {
-            regs: &mut regs,
-            left: &mut left,
-            memory: &mut memory,
-            region: REGION,
-            log: &mut log,
-        };
-        part.run(&platform.costs, place, u64::from(cycle), u64::from(count));
-        assert_eq!(rt; left, cycles_left, "after {count} from {cycle}");
-        assert_eq!(rt; regs.pc, pc, "after {count} from {cycle}");
+    for (access, wanted) in cases {
+        let answer = port_answered(&mut memory, &mut ports, &mut log, 0b0110, access);
+        assert_eq!(rt; answer, wanted, "{access:?}");
     }
     let rows = [
-        row(100, Kind::Step, 0),
-        row(101, Kind::Step, 4),
-        row(105, Kind::Word, 7),
-        row(105, Kind::Step, 8),
-        row(106, Kind::Step, 12),
+        row(LATE, Kind::Send, 7),
+        row(LATE, Kind::Send, 8),
+        row(LATE, Kind::Recv, 30),
+        row(LATE, Kind::Send, 50),
+        row(LATE, Kind::Recv, 40),
     ];
     assert_eq!(rt; log.rows(), rows.as_slice());
-    assert_eq!(rt; log.cut(), 0);
-    let end = PartEnd::Halt {
-        code: 0,
-        cycle: 106,
-    };
-    assert_eq!(rt; log.end(), end);
+    assert_eq!(rt;
+        [ports[2].send_word(0), ports[2].send_word(1)],
+        [Some(7), Some(8)]
+    );
+    assert_eq!(rt;
+        [ports[5].send_word(0), ports[5].recv_word(0)],
+        [Some(50), Some(41)]
+    );
+    for other in [0, 1, 3, 4] {
+        assert_eq!(rt; (ports[other].room(), ports[other].fill()), (2, 0));
+    }
+    Ok(())
+}
+
+// Bytes after a register of a port, a width, and what a load and a store answer there.
+const NARROW: [(u32, Width, Answer); 11] = [
+    (0, Width::Byte, ACCESS),
+    (1, Width::Byte, ACCESS),
+    (2, Width::Byte, ACCESS),
+    (3, Width::Byte, ACCESS),
+    (0, Width::Half, ACCESS),
+    (1, Width::Half, ALIGN),
+    (2, Width::Half, ACCESS),
+    (3, Width::Half, ALIGN),
+    (1, Width::Word, ALIGN),
+    (2, Width::Word, ALIGN),
+    (3, Width::Word, ALIGN),
+];
+
+// Checks that a register is loaded and stored as a word alone.
+fn check_narrow(
+    rt: &impl Abort,
+    memory: &mut TileMemory,
+    ports: &mut [Port],
+    log: &mut PartLog,
+    register: u32,
+)
+    requires { 5 < length ports.old }
+{
+    for (after, width, wanted) in NARROW {
+        let addr = register.wrapping_add(after);
+        let loaded = port_answered(memory, ports, log, 15, load(addr, width));
+        assert_eq!(rt; loaded, wanted, "a load of {width:?} at {addr}");
+        let stored = port_answered(memory, ports, log, 15, store(addr, width, 5));
+        assert_eq!(rt; stored, wanted, "a store of {width:?} at {addr}");
+    }
+}
+
+#[test]
+fn a_port_register_is_a_word(rt: HostRuntime) -> Result<(), Fail> {
+    let mut memory = TileMemory::new(rt.alloc(), 64)?;
+    let mut ports = ports(rt.alloc(), 2)?;
+    let mut log = PartLog::new(rt.alloc(), 8)?;
+    deliver(&mut ports[2], Some(30), 0);
+    deliver(&mut ports[5], Some(40), 0);
+    let registers = [
+        0x8000_0100,
+        0x8000_0104,
+        0x8000_0108,
+        0x8000_010c,
+        0x8000_0114,
+    ];
+    for register in registers {
+        check_narrow(&rt, &mut memory, &mut ports, &mut log, register);
+    }
+    assert_eq!(rt; log.rows(), [].as_slice());
     Ok(())
 }

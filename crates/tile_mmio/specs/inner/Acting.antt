@@ -1,5 +1,5 @@
 -- What a part does on its bus in a cycle.
-use Rattle.std.specs.Prelude.{ℕ, ◌+◌, List, take, drop, length, Result}
+use Rattle.std.specs.Prelude.{ℕ, List, Result}
 use Rattle.std.specs.Borrow.{GName}
 use Rattle.soc_base.specs.declared.region.Region.{Region}
 use Rattle.soc_base.specs.declared.cause.Cause.{Cause}
@@ -9,6 +9,7 @@ use Rattle.part_model.specs.Answers.{BusState}
 use Rattle.part_model.specs.Running.{CycleEnd, effect_with}
 use Rattle.part_model.specs.Part.{part_bus}
 use Rattle.tile_mmio.specs.State.{bus_on}
+use Rattle.tile_mmio.specs.Part.{rest_of}
 use Rattle.tile_mmio.specs.declared.run.PartOnTile.{PartOnTile}
 
 -- the bus of a part on its tile, in a cycle
@@ -20,13 +21,6 @@ bus_in p place cycle =
 abbrev pub acted : PartOnTile → Place → ℕ → Result Instr Cause → CycleEnd BusState
 acted p place cycle here = effect_with part_bus p.regs.now (bus_in p place cycle) here
 
--- what no access of the part changes
+-- the rest of its tile, but for the other ports
 abbrev pub fixed_of : PartOnTile → (GName × GName × GName × GName × GName) × Region × List ℕ × List ℕ × ℕ × List ℕ
-fixed_of p = (
-  (p.regs.ghost_name, p.left.ghost_name, p.memory.ghost_name, p.ports.ghost_name, p.log.ghost_name),
-  p.region,
-  take p.region.base p.memory.now,
-  drop (p.region.base + p.region.len) p.memory.now,
-  length p.memory.now,
-  p.map.now,
-)
+fixed_of p = let rest = rest_of p in (rest.0, rest.1, rest.2, rest.3, rest.4, rest.5)

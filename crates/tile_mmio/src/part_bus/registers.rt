@@ -34,7 +34,7 @@ fn register(addr: u32) -> u32
 
 impl PartBus<'_> {
     ghost use Rattle.tile_mmio.specs.State.{bus_state, bus_rest};
-    ghost use Rattle.tile_mmio.specs.inner.Numbered.{numbered};
+    ghost use Rattle.tile_mmio.specs.inner.TilePort.{tile_port};
 
     // The tile's number of the port whose registers an address is among.
     fn number_at(&self, addr: u32) -> Option<u8>
@@ -48,8 +48,8 @@ impl PartBus<'_> {
     // Takes the oldest word that a port received.
     fn receive(&mut self, number: u8) -> Answer
         requires { number < length (bus_state self.old).ports }
-        ensures answer { result ≡ (port_load (bus_state self.old) RECV (numbered (bus_state self.old) number)).0 }
-        ensures state { bus_state self.new ≡ (port_load (bus_state self.old) RECV (numbered (bus_state self.old) number)).1 }
+        ensures answer { result ≡ (port_load (bus_state self.old) RECV (tile_port (bus_state self.old) number)).0 }
+        ensures state { bus_state self.new ≡ (port_load (bus_state self.old) RECV (tile_port (bus_state self.old) number)).1 }
         ensures refused { IsKeptUnlessDone result (bus_state self.old) (bus_state self.new) }
         ensures kept { bus_rest self.new ≡ bus_rest self.old }
     {
@@ -66,8 +66,8 @@ impl PartBus<'_> {
     // Puts a word into the send queue of a port.
     fn send(&mut self, number: u8, word: u32) -> Answer
         requires { number < length (bus_state self.old).ports }
-        ensures answer { result ≡ (port_store (bus_state self.old) SEND word (numbered (bus_state self.old) number)).0 }
-        ensures state { bus_state self.new ≡ (port_store (bus_state self.old) SEND word (numbered (bus_state self.old) number)).1 }
+        ensures answer { result ≡ (port_store (bus_state self.old) SEND word (tile_port (bus_state self.old) number)).0 }
+        ensures state { bus_state self.new ≡ (port_store (bus_state self.old) SEND word (tile_port (bus_state self.old) number)).1 }
         ensures bound { IsStored result }
         ensures refused { IsKeptUnlessDone result (bus_state self.old) (bus_state self.new) }
         ensures kept { bus_rest self.new ≡ bus_rest self.old }
@@ -85,14 +85,15 @@ impl PartBus<'_> {
     // Loads from a register of a port.
     fn load_port(&mut self, number: u8, register: u32) -> Answer
         requires { number < length (bus_state self.old).ports }
-        ensures answer { result ≡ (port_load (bus_state self.old) register (numbered (bus_state self.old) number)).0 }
-        ensures state { bus_state self.new ≡ (port_load (bus_state self.old) register (numbered (bus_state self.old) number)).1 }
+        ensures answer { result ≡ (port_load (bus_state self.old) register (tile_port (bus_state self.old) number)).0 }
+        ensures state { bus_state self.new ≡ (port_load (bus_state self.old) register (tile_port (bus_state self.old) number)).1 }
         ensures refused { IsKeptUnlessDone result (bus_state self.old) (bus_state self.new) }
         ensures kept { bus_rest self.new ≡ bus_rest self.old }
     {
         if register == RECV {
             return self.receive(number);
         }
+        // an element can't be lent through the field, so the slice is
         let lent = &mut *self.ports;
         let ports = &*lent;
         let port = &ports[usize::from(number)];
@@ -106,8 +107,8 @@ impl PartBus<'_> {
     // Puts a word into a register of a port.
     fn store_port(&mut self, number: u8, register: u32, value: u32) -> Answer
         requires { number < length (bus_state self.old).ports }
-        ensures answer { result ≡ (port_store (bus_state self.old) register value (numbered (bus_state self.old) number)).0 }
-        ensures state { bus_state self.new ≡ (port_store (bus_state self.old) register value (numbered (bus_state self.old) number)).1 }
+        ensures answer { result ≡ (port_store (bus_state self.old) register value (tile_port (bus_state self.old) number)).0 }
+        ensures state { bus_state self.new ≡ (port_store (bus_state self.old) register value (tile_port (bus_state self.old) number)).1 }
         ensures bound { IsStored result }
         ensures refused { IsKeptUnlessDone result (bus_state self.old) (bus_state self.new) }
         ensures kept { bus_rest self.new ≡ bus_rest self.old }
