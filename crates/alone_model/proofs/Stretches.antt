@@ -1,9 +1,8 @@
 -- A part's cycles by stretches: those in which it doesn't run leave it, and in those in which it runs it
 -- has one part cycle after another.
-use Rattle.std.proofs.Common.{◌≡◌, ℕ, zero, suc, ◌+◌, ◌-◌, ◌*◌, ◌/◌, ◌%◌, ◌<◌, ◌≤◌, Bool, true, false, cond, nat_le, ◌&&◌, List, [], ◌∷◌, map, refl, sym, ap, ap₂, ◌∙◌, max, inl, inr, arith}
+use Rattle.std.proofs.Common.{◌≡◌, ℕ, zero, suc, ◌+◌, ◌-◌, ◌*◌, ◌/◌, ◌%◌, ◌<◌, ◌≤◌, Bool, true, false, cond, nat_le, ◌&&◌, List, refl, sym, ap, ap₂, ◌∙◌, max, inl, inr, arith}
 use Rattle.std.proofs.lemmas.Nat.{div-mul-add}
 use Rattle.std.proofs.Math.Nat.{mod-eq-sub-div-mul, div-mul-le_self}
-use Rattle.std.proofs.lemmas.List.{map-id}
 use Rattle.std.proofs.lemmas.Bool.{cases_lt}
 use Rattle.std.proofs.lemmas.Bool.Decides.{nat_tests}
 use Rattle.soc_base.specs.Time.{FrameTimes, instance_cycles, instance_at, offset_at, served_at, is_among, runs}
@@ -13,7 +12,8 @@ use Rattle.soc_base.proofs.Laws.{steps_split}
 use Rattle.platform_model.specs.declared.platform.Platform.{Platform}
 use Rattle.platform_model.specs.Platform.{frame_of}
 use Rattle.part_model.specs.Part.{part_cycle}
-use Rattle.alone_model.specs.App.{AppPart, AppState, place_of, part_step, app_cycle}
+use Rattle.alone_model.specs.Network.{AppPart}
+use Rattle.alone_model.specs.App.{place_of, part_step}
 use Rattle.alone_model.specs.inner.Stretch.{part_ran}
 
 -- whether a part runs in a cycle, where its application was granted from cycle `start` on
@@ -123,19 +123,6 @@ run_instance platform start from first to p here some run =
     ∙ steps_split step from (first - from) (to - first) p
     ∙ ap₂ (λ (k : ℕ) (q : AppPart). after_steps step k (to - first) q) at idle
     ∙ runs_on
-
-map_twice : {X : Type 0} (g h : X → X) (xs : List X) → map g (map h xs) ≡ map (λ x. g (h x)) xs
-map_twice g h [] = refl
-map_twice g h (x ∷ xs) = ap (λ ys. g (h x) ∷ ys) (map_twice g h xs)
-
--- the parts of an application go through cycles each by itself
-pub parts_steps : (platform : Platform) (start from n : ℕ) (app : AppState)
-    → after_steps (app_cycle platform start) from n app ≡ record app { parts = map (after_steps (part_step platform start) from n) app.parts }
-unfolding after_steps
-parts_steps platform start from zero app = ap (λ (parts : List AppPart). record app { parts = parts }) (sym (map-id app.parts))
-parts_steps platform start from (suc n) app =
-    ap (app_cycle platform start (from + n)) (parts_steps platform start from n app)
-    ∙ ap (λ (parts : List AppPart). record app { parts = parts }) (map_twice (part_step platform start (from + n)) (after_steps (part_step platform start) from n) app.parts)
 
 -- a state goes on from one number to another, and then to a third
 pub steps_join : {S : Type 0} (step : ℕ → S → S) (from at to : ℕ) (old now new : S) → from ≤ at → at ≤ to

@@ -14,7 +14,7 @@ use Rattle.rv_core.specs.Registers.{fresh_registers}
 use Rattle.tile_memory.specs.Bytes.{filled_bytes}
 use Rattle.trace_log.specs.Log.{new_log}
 use Rattle.part_model.specs.declared.record.Place.{Place}
-use Rattle.part_model.specs.Part.{PartState, part_cycle}
+use Rattle.part_model.specs.Part.{part_cycle}
 use Rattle.alone_model.specs.Network.{AppPart, Flying, with_ports, injected, new_flits, is_due, delivered}
 
 -- an application between two cycles: its parts, in the order of the file, and the flits on their way, the

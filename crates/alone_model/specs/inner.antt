@@ -1,2 +1,5 @@
 -- Words of clauses between the functions of this crate.
 pub mod Stretch
+pub mod Told
+pub mod OnTile
+pub mod Exchange

@@ -7,6 +7,7 @@ ghost use Rattle.trace_log.specs.Rows.{row_cmp};
 ghost use Rattle.bundle_model.specs.WellFormed.{IsWellFormed};
 ghost use Rattle.alone_model.specs.App.{alone_at};
 ghost use Rattle.alone_model.specs.Trace.{IsTraceOf, part_trace};
+ghost use Rattle.alone_model.specs.inner.Told.{app_of};
 
 use crate::application::Application;
 use crate::part::RunningPart;
@@ -47,7 +48,7 @@ fn part_traces(alloc: Global, parts: &[RunningPart<'_>]) -> Result<Vec<PartTrace
 
 // The trace of an application.
 fn trace_of(alloc: Global, app: &Application<'_>) -> Result<AppTrace, NoMemory>
-    ensures { IfOk result (IsTraceOf app.now) }
+    ensures { IfOk result (IsTraceOf (app_of app.now)) }
 {
     let rows = merged_rows(alloc, app.parts())?;
     let parts = part_traces(alloc, app.parts())?;
@@ -60,7 +61,6 @@ fn trace_of(alloc: Global, app: &Application<'_>) -> Result<AppTrace, NoMemory>
 /// Answers the trace of a bundle alone on the empty platform, from its granted slot `start` up to the
 /// beginning of slot `end`. The bundle is well-formed for the platform, the start isn't after the end,
 /// and the end is at most cycle 1,000,000,000,063.
-#[tactic(auto, unfolding(crate::specs::App::alone_at))]
 pub fn alone(
     alloc: Global,
     platform: &Platform,
@@ -73,8 +73,7 @@ pub fn alone(
     requires bounded { end * platform.now.slot_cycles ≤ LAST_CYCLE }
     ensures { IfOk result (IsTraceOf (alone_at platform.now bundle.now start end)) }
 {
-    let slot_cycles = u64::from(platform.slot_cycles);
     let mut app = Application::new(alloc, platform, bundle)?;
-    app.run(platform, start * slot_cycles, end * slot_cycles);
+    app.run(alloc, platform, bundle, start, end)?;
     trace_of(alloc, &app)
 }

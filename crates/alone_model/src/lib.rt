@@ -5,16 +5,20 @@
 //! `alone` is the plain engine that computes it.
 #![tactic(auto)]
 
-/// An application, whose parts go through their cycles each by itself.
+/// An application, slot by slot.
 mod application;
 /// The trace of an application alone.
 mod engine;
-/// One part with registers and a memory of its own.
+/// What the channels of an application do in a slot.
+mod exchange;
+/// One part with registers, a memory and ports of its own.
 mod part;
+/// The ports of a part, which inject and receive in the slots of their channels.
+mod port;
 /// Traces.
 mod trace;
 
-/// A small program followed alone.
+/// Applications followed alone.
 #[cfg(test)]
 mod tests;
 

@@ -4,5 +4,5 @@ use Rattle.alone_model.proofs.application.run_each.Given as goal
 
 abbrev pub invariant-loop-part : goal.invariant-loop-part
 invariant-loop-part l =
-    let run = part_steps l.platform l.from l.from (l.to - l.from) in
-    l.parts ≡ map run (take l.part-index l.fn.parts) ++ drop l.part-index l.fn.parts
+    let run = part_steps l.platform l.start l.from (l.to - l.from) in
+    l.part-items ≡ map run (take l.part-index l.fn.parts.items) ++ drop l.part-index l.fn.parts.items

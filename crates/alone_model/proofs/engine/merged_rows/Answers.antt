@@ -1,5 +1,5 @@
 use Rattle.std.proofs.Common.{arith}
-use Rattle.alone_model.specs.App.{AppPart}
+use Rattle.alone_model.specs.Network.{AppPart}
 use Rattle.alone_model.proofs.Merged.{merged_more}
 use Rattle.alone_model.proofs.engine.merged_rows.Goals as goal
 

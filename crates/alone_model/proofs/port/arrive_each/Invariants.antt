@@ -1,0 +1,8 @@
+use Rattle.std.proofs.Common.{◌≡◌, ◌++◌, take, drop}
+use Rattle.alone_model.specs.Network.{each_port}
+use Rattle.alone_model.specs.inner.Exchange.{after_arriving}
+use Rattle.alone_model.proofs.port.arrive_each.Given as goal
+
+abbrev pub invariant-loop-place : goal.invariant-loop-place
+invariant-loop-place l =
+    l.ports ≡ each_port (after_arriving l.arrivals l.tile) (take l.place l.numbers) (take l.place l.fn.ports) ++ drop l.place l.fn.ports
