@@ -113,8 +113,7 @@ word_moved words n names new text word so_far is appended same =
     let inside : n < length words = slice_get_within words n word is in
     let here : get_or words n word ≡ word = get_or_from_slice_get words n word word is in
     let split : drop n words ≡ text ∷ drop (n + 1) words =
-    drop_more words n word inside ∙ ap (λ w. w ∷ drop (n + 1) words) (here ∙ sym same) in
-    (
+    drop_more words n word inside ∙ ap (λ w. w ∷ drop (n + 1) words) (here ∙ sym same) in (
       ap (λ some. some ++ drop (n + 1) words) appended ∙ append_assoc names (text ∷ []) (drop (n + 1) words)
           ∙ ap (λ rest. names ++ rest) (sym split) ∙ so_far,
       omega (arith, inside),

@@ -60,7 +60,7 @@ scripts_below catalog session [] known = refl
 scripts_below catalog session (script ∷ scripts) known =
     let P : List ℕ → Type 0 = λ name. names (catalog_names catalog) name ≡ true in
     let split : loaded_names (all_commands (script ∷ scripts))
-        ≡ loaded_names script.commands ++ loaded_names (all_commands scripts) =
+    ≡ loaded_names script.commands ++ loaded_names (all_commands scripts) =
     ap loaded_names (flat_map-cons (λ (s : Script). s.commands) script scripts)
     ∙ filter_map-append loaded_name script.commands (all_commands scripts) in
     let (front, back) = all_parts P (loaded_names script.commands) (loaded_names (all_commands scripts))

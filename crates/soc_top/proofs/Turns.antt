@@ -97,7 +97,7 @@ one_more_script told names i name room left scripts new so_far inside is added =
       read = read_more told names i name room scripts script so_far (split_at names i name inside is) added.gives;
       room_left =
           let sum : length (all_commands (scripts ++ script ∷ []))
-              ≡ length (all_commands scripts) + length script.commands =
+          ≡ length (all_commands scripts) + length script.commands =
           ap length more ∙ length-append (all_commands scripts) script.commands in
           omega (arith, sum, so_far.room_left, added.counted);
       in_time = All-append InTime scripts (script ∷ []) so_far.in_time
@@ -196,7 +196,7 @@ setup_read told request platform scripts catalog setup gives read judged is are 
     (bundles_order platform (bundle_names (all_commands scripts))) Whole (map ScriptRead scripts)
     (map BundleRead catalog) (read.read platform) judged in
     let all : AreRead told (run_order request)
-        (PlatformRead platform ∷ (map ScriptRead scripts ++ map BundleRead catalog)) = (gives, rest) in
+    (PlatformRead platform ∷ (map ScriptRead scripts ++ map BundleRead catalog)) = (gives, rest) in
     (rw (is, are, of) all, budget ∙ ap (λ (p : Platform). slot_up_of request.budget p.slot_cycles) (sym is))
 
 -- want of memory needs no cause

@@ -84,117 +84,122 @@ fn programs_of_one_part(rt: HostRuntime) -> Result<(), Fail> {
             long,
             "word",
             divides.as_str(),
-            "0 to 512",
-            "349 0 word 0000000e\npart 0 halt 00000000 at 350 cut 0\n",
+            "0 512",
+            "0 to 512\n349 0 word 0000000e\npart 0 halt 00000000 at 350 cut 0\n",
         ),
         (
             second,
             "word",
             "1300000000000000",
-            "0 to 384",
-            "part 0 fault illegal at 201 cut 0\n",
+            "0 384",
+            "0 to 384\npart 0 fault illegal at 201 cut 0\n",
         ),
         (
             second,
             "step",
             "8322000073000000",
-            "0 to 384",
-            "201 0 step 00000000\n202 0 step 00000004\npart 0 halt 00000000 at 202 cut 0\n",
+            "0 384",
+            "0 to 384\n201 0 step 00000000\n202 0 step 00000004\npart 0 halt 00000000 at 202 cut 0\n",
         ),
         (
             first,
             "step",
             "83222000",
-            "0 to 384",
-            "part 0 fault align at 73 cut 0\n",
+            "0 384",
+            "0 to 384\npart 0 fault align at 73 cut 0\n",
         ),
         // A store that changes an instruction ahead to ECALL.
         (
             first,
             "word",
             "93025005b733070093033007232a700013053000130000001305400073000000",
-            "0 to 384",
-            "part 0 halt 00000003 at 78 cut 0\n",
+            "0 384",
+            "0 to 384\npart 0 halt 00000003 at 78 cut 0\n",
         ),
         // CYCLEH and CYCLE.
         (
             first,
             "word",
             "37030080832283008323430023205300232073001385030073000000",
-            "0 to 384",
-            "84 0 word 00000000\n88 0 word 00000050\npart 0 halt 00000050 at 90 cut 0\n",
+            "0 384",
+            "0 to 384\n84 0 word 00000000\n88 0 word 00000050\npart 0 halt 00000050 at 90 cut 0\n",
         ),
         (
             first,
             "word",
             "37030080832283008323430023205300232073001385030073000000",
-            "8589934592 to 8589934720",
-            "8589934676 0 word 00000002\n8589934680 0 word 00000050\npart 0 halt 00000050 at 8589934682 cut 0\n",
+            "8589934592 8589934720",
+            "8589934592 to 8589934720\n8589934676 0 word 00000002\n8589934680 0 word 00000050\npart 0 halt 00000050 at 8589934682 cut 0\n",
         ),
         // Loads of each width, the region's last byte, and one past it.
         (
             first,
             "word",
             "370300808302800383438003031480038354800383258003232053002320730023208300232093002320b3000346f003830600040000000080ff0182",
-            "0 to 384",
-            "86 0 word ffffff80\n90 0 word 00000080\n94 0 word ffffff80\n98 0 word 0000ff80\n102 0 word 8201ff80\npart 0 fault access at 106 cut 0\n",
+            "0 384",
+            "0 to 384\n86 0 word ffffff80\n90 0 word 00000080\n94 0 word ffffff80\n98 0 word 0000ff80\n102 0 word 8201ff80\npart 0 fault access at 106 cut 0\n",
         ),
         // A byte to a device register.
         (
             first,
             "word",
             "3703008023000300",
-            "0 to 384",
-            "part 0 fault access at 76 cut 0\n",
+            "0 384",
+            "0 to 384\npart 0 fault access at 76 cut 0\n",
         ),
         // Jumps to the last word, past it, and to an odd half word; EBREAK.
         (
             first,
             "word",
             "6700c003",
-            "0 to 384",
-            "part 0 fault illegal at 75 cut 0\n",
+            "0 384",
+            "0 to 384\npart 0 fault illegal at 75 cut 0\n",
         ),
         (
             first,
             "word",
             "67000004",
-            "0 to 384",
-            "part 0 fault fetch at 75 cut 0\n",
+            "0 384",
+            "0 to 384\npart 0 fault fetch at 75 cut 0\n",
         ),
         (
             first,
             "word",
             "67002000",
-            "0 to 384",
-            "part 0 fault target at 74 cut 0\n",
+            "0 384",
+            "0 to 384\npart 0 fault target at 74 cut 0\n",
         ),
         (
             first,
             "word",
             "73001000",
-            "0 to 384",
-            "part 0 fault break at 72 cut 0\n",
+            "0 384",
+            "0 to 384\npart 0 fault break at 72 cut 0\n",
         ),
         // Branches, taken twice and then not.
         (
             first,
             "word",
             "930230009382f2ffe39e02fe73000000",
-            "0 to 384",
-            "part 0 halt 00000000 at 83 cut 0\n",
+            "0 384",
+            "0 to 384\npart 0 halt 00000000 at 83 cut 0\n",
         ),
     ];
-    for (region, kind, image, span, lines) in cases {
+    for (region, kind, image, cycles, lines) in cases {
         let mut shelf = Vec::new(alloc);
         add(alloc, &mut shelf, "one.toml", PLATFORM)?;
         let part = format!(in alloc;
             "version = 1\n[[part]]\ntile = 0\nentry = 0\n{region}trace = 16\nkinds = [\"{kind}\"]\nimage = \"{image}\"\n"
         )?;
         add(alloc, &mut shelf, "a.toml", part.as_str())?;
-        let line = format!(in alloc; "alone one.toml a.toml {}", span.replace(alloc, " to", "")?)?;
-        let text = format!(in alloc; "alone a.toml from {span}\n{lines}end\n")?;
-        expect(&rt, alloc, shelf.as_slice(), (line.as_str(), 0, 0, 0, text.as_str()))?;
+        let line = format!(in alloc; "alone one.toml a.toml {cycles}")?;
+        let text = format!(in alloc; "alone a.toml from {lines}end\n")?;
+        expect(
+            &rt,
+            alloc,
+            shelf.as_slice(),
+            (line.as_str(), 0, 0, 0, text.as_str()),
+        )?;
     }
     Ok(())
 }

@@ -85,18 +85,8 @@ fn reports(rt: HostRuntime) -> Result<(), Fail> {
             ("load long.toml at 0\n", ""),
             "512\ncommand 1 1 load long.toml at 0: granted 1.1 at 0\napp 1.1 long.toml from 0 to 512\n349 0 word 0000000e\npart 0 halt 00000000 at 350 cut 0\n",
         ),
-        (
-            frame,
-            "8 s.txt",
-            ("", ""),
-            "8\n",
-        ),
-        (
-            frame,
-            "8 s.txt",
-            ("\n# note\n", ""),
-            "8\n",
-        ),
+        (frame, "8 s.txt", ("", ""), "8\n"),
+        (frame, "8 s.txt", ("\n# note\n", ""), "8\n"),
         (
             frame,
             "0 s.txt",
@@ -136,26 +126,38 @@ fn reports(rt: HostRuntime) -> Result<(), Fail> {
         (
             frame,
             "0 s.txt",
-            ("load a.toml at 0\nload over.toml at 0\nload a2.toml at 0\n", ""),
+            (
+                "load a.toml at 0\nload over.toml at 0\nload a2.toml at 0\n",
+                "",
+            ),
             "0\ncommand 1 1 load a.toml at 0: granted 1.1 at 0\ncommand 1 2 load over.toml at 0: taken span 0 48 64 by 1.1 free none\ncommand 1 3 load a2.toml at 0: granted 1.3 at 0\napp 1.1 a.toml from 0 to 0\npart 0 live cut 0\napp 1.3 a2.toml from 0 to 0\npart 0 live cut 0\n",
         ),
         (
             frame,
             "8 s.txt",
-            ("load a.toml at 8\nload a2.toml at 80\nload a.toml at 160\n", ""),
+            (
+                "load a.toml at 8\nload a2.toml at 80\nload a.toml at 160\n",
+                "",
+            ),
             "8\ncommand 1 1 load a.toml at 8: granted 1.1 at 8\ncommand 1 2 load a2.toml at 80: granted 1.2 at 80\ncommand 1 3 load a.toml at 160: taken partition 0 0 by 1.1 free none\napp 1.1 a.toml from 8 to 8\npart 0 live cut 0\napp 1.2 a2.toml from 80 to 80\npart 0 live cut 0\n",
         ),
         (
             frame,
             "384 s.txt",
-            ("load a2.toml at 0\r\nload base.toml at 0\r\n\tload  a.toml\tat 0007", ""),
+            (
+                "load a2.toml at 0\r\nload base.toml at 0\r\n\tload  a.toml\tat 0007",
+                "",
+            ),
             "384\ncommand 1 1 load a2.toml at 0: granted 1.1 at 0\ncommand 1 2 load base.toml at 0: malformed B7\ncommand 1 3 load a.toml at 7: granted 1.3 at 8\napp 1.1 a2.toml from 0 to 384\n205 0 word 00000007\npart 0 halt 00000000 at 206 cut 0\napp 1.3 a.toml from 8 to 384\n333 0 word 00000007\npart 0 halt 00000000 at 334 cut 0\n",
         ),
         // Other frames. One halts, one faults, and of one the trace is cut.
         (
             (8, 3),
             "384 s.txt",
-            ("load a.toml at 0\nload bad.toml at 0\nload cut.toml at 0\n", ""),
+            (
+                "load a.toml at 0\nload bad.toml at 0\nload cut.toml at 0\n",
+                "",
+            ),
             "384\ncommand 1 1 load a.toml at 0: granted 1.1 at 0\ncommand 1 2 load bad.toml at 0: granted 1.2 at 0\ncommand 1 3 load cut.toml at 0: granted 1.3 at 0\napp 1.1 a.toml from 0 to 384\n77 0 word 00000007\npart 0 halt 00000000 at 78 cut 0\napp 1.2 bad.toml from 0 to 384\npart 0 fault illegal at 201 cut 0\napp 1.3 cut.toml from 0 to 384\n332 0 word 80000000\n336 0 word 80000000\npart 0 halt 00000000 at 349 cut 3\n",
         ),
         (
@@ -174,7 +176,10 @@ fn reports(rt: HostRuntime) -> Result<(), Fail> {
         (
             frame,
             "384 s.txt t.txt",
-            ("load a.toml at 8\nload a.toml at 160\n", "load a2.toml at 80\n"),
+            (
+                "load a.toml at 8\nload a.toml at 160\n",
+                "load a2.toml at 80\n",
+            ),
             "384\ncommand 1 1 load a.toml at 8: granted 1.1 at 8\ncommand 2 1 load a2.toml at 80: granted 2.1 at 80\ncommand 1 2 load a.toml at 160: taken partition 0 0 by 1.1 free none\napp 1.1 a.toml from 8 to 384\n333 0 word 00000007\npart 0 halt 00000000 at 334 cut 0\napp 2.1 a2.toml from 80 to 384\n205 0 word 00000007\npart 0 halt 00000000 at 206 cut 0\n",
         ),
         // The sessions are those of the words, in their order.
@@ -200,17 +205,18 @@ fn reports(rt: HostRuntime) -> Result<(), Fail> {
         add(alloc, &mut shelf, "t.txt", scripts.1)?;
         let line = format!(in alloc; "run one.toml {words}")?;
         let text = format!(in alloc; "compsoc report 1\nbudget {report}end\n")?;
-        expect(&rt, alloc, shelf.as_slice(), (line.as_str(), 0, 0, 0, text.as_str()))?;
+        expect(
+            &rt,
+            alloc,
+            shelf.as_slice(),
+            (line.as_str(), 0, 0, 0, text.as_str()),
+        )?;
     }
     Ok(())
 }
 
 // What a session's first command of sixteen is, and how its application ran.
-fn sixteen(
-    alloc: Global,
-    files: &mut Vec<File>,
-    sessions: bool,
-) -> Result<(String, String), Fail> {
+fn sixteen(alloc: Global, files: &mut Vec<File>, sessions: bool) -> Result<(String, String), Fail> {
     let mut words = String::from_str(alloc, "run one.toml 2048")?;
     let mut script = String::new(alloc);
     let mut commands = String::new(alloc);
@@ -257,7 +263,12 @@ fn sixteen_parts_on_one_tile(rt: HostRuntime) -> Result<(), Fail> {
         let platform = platform(alloc, (8, 16))?;
         add(alloc, &mut shelf, "one.toml", platform.as_str())?;
         let (line, text) = sixteen(alloc, &mut shelf, sessions)?;
-        expect(&rt, alloc, shelf.as_slice(), (line.as_str(), 0, 0, 0, text.as_str()))?;
+        expect(
+            &rt,
+            alloc,
+            shelf.as_slice(),
+            (line.as_str(), 0, 0, 0, text.as_str()),
+        )?;
     }
     Ok(())
 }
@@ -280,7 +291,12 @@ fn a_failing_write_of_a_report(rt: HostRuntime) -> Result<(), Fail> {
     add(alloc, &mut shelf, "one.toml", platform.as_str())?;
     add(alloc, &mut shelf, "s.txt", "load a.toml at 0\n")?;
     for (failing, text) in cases {
-        expect(&rt, alloc, shelf.as_slice(), ("run one.toml 384 s.txt", 0, failing, 6, text))?;
+        expect(
+            &rt,
+            alloc,
+            shelf.as_slice(),
+            ("run one.toml 384 s.txt", 0, failing, 6, text),
+        )?;
     }
     Ok(())
 }

@@ -145,7 +145,10 @@ fn scripts_and_bundle_files(rt: HostRuntime) -> Result<(), Fail> {
         ),
         (
             one,
-            ("load a.toml at 8\nload no.toml at 8\nload nor.toml at 8\n", ""),
+            (
+                "load a.toml at 8\nload no.toml at 8\nload nor.toml at 8\n",
+                "",
+            ),
             0,
             4,
             "compsoc: absent no.toml\n",
@@ -167,14 +170,20 @@ fn scripts_and_bundle_files(rt: HostRuntime) -> Result<(), Fail> {
         ),
         (
             one,
-            ("load a.toml at 8\nload a.toml at 9\nload p4.toml at 8\n", ""),
+            (
+                "load a.toml at 8\nload a.toml at 9\nload p4.toml at 8\n",
+                "",
+            ),
             4,
             5,
             "compsoc: read p4.toml\n",
         ),
         (
             one,
-            ("load a.toml at 8\nload p4.toml at 8\nload a.toml at 9\nload no.toml at 8\n", ""),
+            (
+                "load a.toml at 8\nload p4.toml at 8\nload a.toml at 9\nload no.toml at 8\n",
+                "",
+            ),
             0,
             4,
             "compsoc: absent no.toml\n",
@@ -213,42 +222,60 @@ fn scripts_and_bundle_files(rt: HostRuntime) -> Result<(), Fail> {
         // both scripts name is read once.
         (
             two,
-            ("load a.toml at 8\nload p4.toml at 8\n", "load p4.toml at 9\nload b7.toml at 9\n"),
+            (
+                "load a.toml at 8\nload p4.toml at 8\n",
+                "load p4.toml at 9\nload b7.toml at 9\n",
+            ),
             1,
             5,
             "compsoc: read one.toml\n",
         ),
         (
             two,
-            ("load a.toml at 8\nload p4.toml at 8\n", "load p4.toml at 9\nload b7.toml at 9\n"),
+            (
+                "load a.toml at 8\nload p4.toml at 8\n",
+                "load p4.toml at 9\nload b7.toml at 9\n",
+            ),
             2,
             5,
             "compsoc: read s.txt\n",
         ),
         (
             two,
-            ("load a.toml at 8\nload p4.toml at 8\n", "load p4.toml at 9\nload b7.toml at 9\n"),
+            (
+                "load a.toml at 8\nload p4.toml at 8\n",
+                "load p4.toml at 9\nload b7.toml at 9\n",
+            ),
             3,
             5,
             "compsoc: read t.txt\n",
         ),
         (
             two,
-            ("load a.toml at 8\nload p4.toml at 8\n", "load p4.toml at 9\nload b7.toml at 9\n"),
+            (
+                "load a.toml at 8\nload p4.toml at 8\n",
+                "load p4.toml at 9\nload b7.toml at 9\n",
+            ),
             4,
             5,
             "compsoc: read a.toml\n",
         ),
         (
             two,
-            ("load a.toml at 8\nload p4.toml at 8\n", "load p4.toml at 9\nload b7.toml at 9\n"),
+            (
+                "load a.toml at 8\nload p4.toml at 8\n",
+                "load p4.toml at 9\nload b7.toml at 9\n",
+            ),
             5,
             5,
             "compsoc: read p4.toml\n",
         ),
         (
             two,
-            ("load a.toml at 8\nload p4.toml at 8\n", "load p4.toml at 9\nload b7.toml at 9\n"),
+            (
+                "load a.toml at 8\nload p4.toml at 8\n",
+                "load p4.toml at 9\nload b7.toml at 9\n",
+            ),
             6,
             5,
             "compsoc: read b7.toml\n",
@@ -256,7 +283,10 @@ fn scripts_and_bundle_files(rt: HostRuntime) -> Result<(), Fail> {
         // The bundle file of the second script is absent.
         (
             two,
-            ("load a.toml at 8\n", "load a.toml at 9\nload no.toml at 9\n"),
+            (
+                "load a.toml at 8\n",
+                "load a.toml at 9\nload no.toml at 9\n",
+            ),
             0,
             4,
             "compsoc: absent no.toml\n",
@@ -300,13 +330,25 @@ fn commands_up_to_the_limit(rt: HostRuntime) -> Result<(), Fail> {
         ("s.txt", 256, 0, 4, "compsoc: absent no.toml\n"),
         ("s.txt", 257, 0, 3, "compsoc: script s.txt too many\n"),
         ("s.txt t.txt", 200, 56, 4, "compsoc: absent no.toml\n"),
-        ("s.txt t.txt", 200, 57, 3, "compsoc: script t.txt too many\n"),
+        (
+            "s.txt t.txt",
+            200,
+            57,
+            3,
+            "compsoc: script t.txt too many\n",
+        ),
         ("s.txt t.txt", 256, 0, 4, "compsoc: absent no.toml\n"),
         ("s.txt t.txt", 256, 1, 3, "compsoc: script t.txt too many\n"),
         // A script that is named twice has room for as many commands twice, or hasn't.
         ("s.txt s.txt", 128, 0, 4, "compsoc: absent no.toml\n"),
         ("s.txt s.txt", 129, 0, 3, "compsoc: script s.txt too many\n"),
-        ("s.txt t.txt s.txt", 128, 1, 3, "compsoc: script s.txt too many\n"),
+        (
+            "s.txt t.txt s.txt",
+            128,
+            1,
+            3,
+            "compsoc: script s.txt too many\n",
+        ),
     ];
     for (words, first, second, status, text) in cases {
         let line = format!(in alloc; "run one.toml 384 {words}")?;

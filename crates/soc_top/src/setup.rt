@@ -18,7 +18,9 @@ use crate::script::load_scripts;
 use bundle_model::{Named, World};
 use platform_model::Platform;
 use script_file::Script;
-use soc_base::{Items, LAST_CYCLE, LAST_STATED_CYCLE, MOST_COMMANDS, MOST_SCRIPTS, NoMemory, slot_up};
+use soc_base::{
+    Items, LAST_CYCLE, LAST_STATED_CYCLE, MOST_COMMANDS, MOST_SCRIPTS, NoMemory, slot_up,
+};
 use soc_io::Files;
 use std::alloc::Global;
 use vep_manager::{Setup, named_loads};

@@ -69,7 +69,15 @@ pub type Row<'a> = (&'a str, u64, u64, u8, &'a str);
 pub fn expect(rt: &impl Abort, alloc: Global, shelf: &[File], row: Row<'_>) -> Result<(), Fail> {
     let (line, read, write, status, text) = row;
     let (ended, written) = ran(alloc, shelf, line, read, write)?;
-    assert_eq!(rt; ended, status, "{line} with read {read} and write {write} failing");
-    assert_eq!(rt; written.as_slice(), text.as_bytes(), "{line} with read {read} and write {write} failing");
+    assert_eq!(rt;
+        ended,
+        status,
+        "{line} with read {read} and write {write} failing"
+    );
+    assert_eq!(rt;
+        written.as_slice(),
+        text.as_bytes(),
+        "{line} with read {read} and write {write} failing"
+    );
     Ok(())
 }

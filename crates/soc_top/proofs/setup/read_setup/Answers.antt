@@ -14,7 +14,7 @@ returns-in-Err-load_scripts-clause-stopped g c =
 pub returns-in-Err-catalog_of-clause-stopped : goal.returns-in-Err-catalog_of-clause-stopped
 returns-in-Err-catalog_of-clause-stopped g c =
     let scripts : AreScripts (g.F.Files.holds c.args.files.now) c.args.request.now.scripts
-        c.in-Ok-load_scripts.scripts.items =
+    c.in-Ok-load_scripts.scripts.items =
     rw (c.as_slice.ensures, c.load_one_tile.ensures.same) at c.in-Ok-load_scripts.ensures.read in
     bundle_stops (g.F.Files.holds c.args.files.now) (g.F.Files.faults c.args.files.now)
     (g.F.Files.faults c.load_scripts.new.files) (g.F.Files.faults c.catalog_of.new.files) c.args.request.now
