@@ -1,15 +1,13 @@
 -- Of a bundle that keeps the rules before, no resource stands twice where none of the network does.
-use Rattle.std.proofs.Common.{◌≡◌, ◌≢◌, ℕ, zero, suc, ◌+◌, ◌*◌, ◌<◌, ◌≤◌, ◌%◌, ◌==◌, Bool, true, false, ◌||◌, ◌&&◌, cond, nat_eq, List, [], ◌∷◌, ◌++◌, map, filter, length, All, AllPairs, Option, Some, None, slice_get, refl, sym, ap, ap₂, ◌∙◌, subst, inl, inr, arith}
+use Rattle.std.proofs.Common.{◌≡◌, ◌≢◌, ℕ, zero, suc, ◌+◌, ◌*◌, ◌<◌, ◌≤◌, ◌%◌, ◌==◌, Bool, true, false, ◌||◌, ◌&&◌, cond, nat_eq, List, [], ◌∷◌, ◌++◌, map, filter, length, All, AllPairs, Option, Some, None, slice_get, refl, sym, ap, ap₂, ◌∙◌, inl, inr, arith}
 use Rattle.std.specs.Prelude.{⊤}
 use Rattle.std.specs.Int.{bit_at}
 use Rattle.std.specs.List.{list_any, range_with_len, flat_map, AllByRecursion, IsDistinct}
 use Rattle.std.specs.Option.{option_map_or}
-use Rattle.std.proofs.Math.Bool.{or_assoc, or-false}
 use Rattle.std.proofs.Math.Nat.{mod-lt}
-use Rattle.std.proofs.lemmas.Bool.{cases_eq, cases_Bool, eq-eqb, ne_eqb, eqb-false, or_from, and_left}
+use Rattle.std.proofs.lemmas.Bool.{cases_eq, eq-eqb, ne_eqb, or_from, and_left}
 use Rattle.std.proofs.lemmas.Bool.Decides.{Decides-eqb}
 use Rattle.std.proofs.lemmas.List.Elements.{recursion_from_All}
-use Rattle.std.proofs.lemmas.List.Folds.{list_any-append}
 use Rattle.std.proofs.lemmas.Map.Made.{IsDistinct-from_AllPairs}
 use Rattle.std.proofs.lemmas.Option.{slice_get_within}
 use Rattle.soc_base.specs.Slots.{slots_of}
@@ -17,18 +15,17 @@ use Rattle.soc_base.specs.Twins.{has_twin}
 use Rattle.platform_model.specs.declared.link.Link.{Link}
 use Rattle.platform_model.specs.declared.platform.Platform.{Platform}
 use Rattle.bundle_model.specs.declared.bundle.Part.{Part}
-use Rattle.bundle_model.specs.declared.bundle.Channel.{Channel}
 use Rattle.bundle_model.specs.declared.bundle.Pair.{Pair}
 use Rattle.bundle_model.specs.declared.bundle.Bundle.{Bundle}
 use Rattle.bundle_model.specs.declared.resource.Resource.{Resource}
 use Rattle.bundle_model.specs.declared.resource.Resource.TheVariants.{Partition, Span, Port, Inject, LinkSlot, Deliver}
 use Rattle.bundle_model.specs.Resources.{part_resources, link_claims, slot_claims, channel_claims, pair_resources, resources_of, is_same}
 use Rattle.bundle_model.specs.Ways.{Way, pair_ways, ways_of}
-use Rattle.bundle_model.specs.WellFormed.{IsWellFormedPart, IsHeldEnd, IsWellFormedWay}
-use Rattle.bundle_model.specs.inner.Places.{place_of, is_at, shares_place}
-use Rattle.bundle_model.specs.inner.Stages.{IsLaidOut}
+use Rattle.bundle_model.specs.WellFormed.{IsWellFormedPart, IsWellFormedWay}
+use Rattle.bundle_model.specs.inner.Places.{network_place, is_at, shares_place}
+use Rattle.bundle_model.specs.inner.Stages.{KeepsEarly}
 use Rattle.bundle_model.proofs.Keyed.{at_place}
-use Rattle.bundle_model.proofs.Twins.{all_append, all_flat, any_same, any_none, any_map, twins_same, twins_none, twins_append, twins_map, distinct_twinless}
+use Rattle.bundle_model.proofs.Twins.{all_append, all_flat, any_none, any_map, twins_same, twins_none, twins_append, twins_map, distinct_twinless}
 
 -- a resource of a part on a tile
 abbrev IsOf : ℕ → Resource → Type 0
@@ -107,7 +104,7 @@ no_claim (Inject a b) other (tile, of) near = absurd of
 no_claim (LinkSlot a b) other (tile, of) near = absurd of
 no_claim (Deliver a b) other (tile, of) near = absurd of
 
-unplaced : (resource : Resource) → IsLocal resource → place_of resource ≡ None
+unplaced : (resource : Resource) → IsLocal resource → network_place resource ≡ None
 unplaced (Partition a b) (tile, of) = refl
 unplaced (Span a b e) (tile, of) = refl
 unplaced (Port a b) (tile, of) = refl
@@ -117,7 +114,7 @@ unplaced (Deliver a b) (tile, of) = absurd of
 
 -- so none of them shares a place
 shares_none : (one other : Resource) → IsLocal one → shares_place one other ≡ false
-shares_none one other of = by_place (place_of other)
+shares_none one other of = by_place (network_place other)
   where
     by_place : (place : Option ℕ) → option_map_or (λ p. is_at p one) place false ≡ false
     by_place None = refl
@@ -319,7 +316,7 @@ near_ways platform bundle [] parts all = tt
 near_ways platform bundle (way ∷ ways) parts (here, rest) = (near_way platform bundle way parts here, near_ways platform bundle ways parts rest)
 
 -- in a bundle that keeps the rules before, a resource stands twice where one of the network does
-pub twins_claimed : (platform : Platform) (bundle : Bundle) → IsLaidOut platform bundle → has_twin shares_place (resources_of platform bundle) ≡ has_twin is_same (resources_of platform bundle)
+pub twins_claimed : (platform : Platform) (bundle : Bundle) → KeepsEarly platform bundle → has_twin shares_place (resources_of platform bundle) ≡ has_twin is_same (resources_of platform bundle)
 twins_claimed platform bundle laid =
     let local = flat_map part_resources bundle.parts in
     let claims = flat_map (pair_resources platform.table_slots) bundle.pairs in

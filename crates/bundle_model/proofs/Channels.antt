@@ -1,5 +1,5 @@
 -- What is true of the channels of a well-formed bundle, each by its number.
-use Rattle.std.proofs.Common.{◌≡◌, ◌≢◌, ℕ, zero, suc, ◌<◌, nat_eq, List, [], ◌∷◌, ◌++◌, map, slice_get, AllPairs, Some, option_map, refl, sym, ap, ◌∙◌, subst, arith}
+use Rattle.std.proofs.Common.{◌≡◌, ℕ, ◌<◌, List, [], ◌∷◌, ◌++◌, map, slice_get, Some, option_map, refl, sym, ap, ◌∙◌, subst, arith}
 use Rattle.std.specs.List.{flat_map}
 use Rattle.std.proofs.lemmas.Bool.Decides.{Decides-eqb}
 use Rattle.std.proofs.lemmas.List.{append-nil}
@@ -13,7 +13,7 @@ use Rattle.bundle_model.specs.declared.bundle.Bundle.{Bundle}
 use Rattle.bundle_model.specs.declared.resource.Resource.{Resource}
 use Rattle.bundle_model.specs.Resources.{part_resources, pair_resources, resources_of}
 use Rattle.bundle_model.specs.Ways.{Way, pair_ways, ways_of}
-use Rattle.bundle_model.specs.WellFormed.{IsWellFormedPart, IsHeldEnd, IsLeft, IsWellFormedWay, IsWellFormed}
+use Rattle.bundle_model.specs.WellFormed.{IsWellFormedPart, IsHeldEnd, IsWellFormedWay, IsWellFormed}
 use Rattle.bundle_model.proofs.Keyed.{at_place, keyed_pairs}
 
 -- the part at a place, and the channel of a number

@@ -1,15 +1,11 @@
 -- The two stages of judging, and the rules that neither of them broke.
-use Rattle.std.proofs.Common.{◌≡◌, Bool, true, false, cond, List, [], ◌∷◌, length, nat_lt, Option, Some, None, refl, sym, ap, ◌∙◌}
-use Rattle.std.specs.List.{find}
+use Rattle.std.proofs.Common.{◌≡◌, [], ◌∷◌, Option, Some, None, sym, ap, ◌∙◌}
 use Rattle.std.specs.Option.{option_or}
 use Rattle.std.proofs.lemmas.List.Folds.{find-append}
-use Rattle.soc_base.specs.Twins.{has_twin}
-use Rattle.soc_base.specs.declared.limits.TheConstants.{MOST_RESOURCES}
 use Rattle.platform_model.specs.declared.platform.Platform.{Platform}
 use Rattle.bundle_model.specs.declared.raw.RawBundle.{RawBundle}
 use Rattle.bundle_model.specs.declared.rules.BRule.{BRule}
 use Rattle.bundle_model.specs.declared.rules.BRule.TheVariants.{B13, B14}
-use Rattle.bundle_model.specs.Resources.{is_same}
 use Rattle.bundle_model.specs.Rules.{breaks, first_rule, raw_resources}
 use Rattle.bundle_model.specs.inner.Stages.{early_rules, first_early, first_late}
 

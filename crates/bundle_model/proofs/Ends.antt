@@ -1,6 +1,6 @@
 -- The ends of pairs that fit the ports of parts: each is a port of a part, and each port is an end of
 -- one pair.
-use Rattle.std.proofs.Common.{◌≡◌, ◌≢◌, ℕ, ℤ, zero, suc, pos, ◌+◌, ◌<◌, ◌≤◌, ◌==◌, Bool, true, false, not, ◌&&◌, ◌||◌, cond, List, [], ◌∷◌, ◌++◌, map, filter, length, slice_get, AllPairs, Option, Some, None, option_map, refl, sym, ap, ap₂, ◌∙◌, subst, inl, inr, arith}
+use Rattle.std.proofs.Common.{◌≡◌, ◌≢◌, ℕ, ℤ, zero, suc, pos, ◌+◌, ◌≤◌, ◌==◌, Bool, true, false, not, ◌&&◌, cond, List, [], ◌∷◌, map, filter, length, slice_get, AllPairs, Some, option_map, refl, sym, ap, ap₂, ◌∙◌, subst, inl, inr, arith}
 use Rattle.std.specs.Prelude.{nat_abs}
 use Rattle.std.specs.List.{list_any, list_all, flat_map, AllByRecursion}
 use Rattle.std.specs.Ordering.{int_eq}
@@ -16,11 +16,9 @@ use Rattle.bundle_model.specs.declared.raw.RawPart.{RawPart}
 use Rattle.bundle_model.specs.declared.raw.RawBundle.{RawBundle}
 use Rattle.bundle_model.specs.declared.bundle.End.{End}
 use Rattle.bundle_model.specs.declared.bundle.Part.{Part}
-use Rattle.bundle_model.specs.declared.bundle.Pair.{Pair}
-use Rattle.bundle_model.specs.declared.bundle.Bundle.{Bundle}
 use Rattle.bundle_model.specs.Bundle.{part_of, end_of, pair_of, bundle_of}
 use Rattle.bundle_model.specs.Rules.{has_tile, is_port, has_ports, is_end_at, is_end_of, is_held_end, end_tile, joins_parts, has_end, is_paired}
-use Rattle.bundle_model.specs.Ways.{Way, pair_ways, ways_of}
+use Rattle.bundle_model.specs.Ways.{Way, pair_ways}
 use Rattle.bundle_model.specs.WellFormed.{IsHeldEnd, IsLeft}
 use Rattle.bundle_model.proofs.Raws.{IsBelow, below_from, equal}
 use Rattle.bundle_model.proofs.Keyed.{filtered_place}

@@ -9,6 +9,7 @@ pub mod Ends
 pub mod ClaimPlaces
 pub mod Apart
 pub mod SlotSets
+pub mod Parts
 pub mod Unbroken
 pub mod Listing
 pub mod Places

@@ -1,5 +1,5 @@
 -- Marks at the numbers of the network's resources that were met.
-use Rattle.std.proofs.Common.{◌≡◌, ℕ, ◌+◌, ◌<◌, ◌≤◌, ◌==◌, Bool, true, false, ◌||◌, List, [], ◌∷◌, ◌++◌, length, get_or, take, Option, Some, None, refl, sym, ap, ap₂, ◌∙◌, subst, inl, inr, arith}
+use Rattle.std.proofs.Common.{◌≡◌, ℕ, ◌+◌, ◌<◌, ◌==◌, Bool, true, false, ◌||◌, List, [], ◌∷◌, ◌++◌, length, get_or, take, Some, None, sym, ap, ap₂, ◌∙◌, subst, inl, inr, arith}
 use Rattle.std.specs.Prelude.{⊤, slice_set}
 use Rattle.std.specs.List.{list_any, AllByRecursion}
 use Rattle.std.specs.Option.{option_map_or}
@@ -10,7 +10,7 @@ use Rattle.std.proofs.lemmas.List.{get_or-replicate, get_or_past, length-replica
 use Rattle.std.proofs.lemmas.List.Folds.{list_any-append}
 use Rattle.soc_base.specs.Twins.{has_twin}
 use Rattle.bundle_model.specs.declared.resource.Resource.{Resource}
-use Rattle.bundle_model.specs.inner.Places.{place_of, is_at, shares_place, AreMarks}
+use Rattle.bundle_model.specs.inner.Places.{network_place, is_at, shares_place, AreMarks}
 use Rattle.bundle_model.proofs.Twins.{any_none, twins_push}
 
 -- marks that are not set
@@ -25,16 +25,16 @@ each_item : {X : Type 0} (xs : List X) → AllByRecursion (λ x. ⊤) xs
 each_item [] = tt
 each_item (x ∷ xs) = (tt, each_item xs)
 
-pub unplaced_met : (resource : Resource) (met : List Resource) → place_of resource ≡ None → list_any (λ one. shares_place one resource) met ≡ false
+pub unplaced_met : (resource : Resource) (met : List Resource) → network_place resource ≡ None → list_any (λ one. shares_place one resource) met ≡ false
 unplaced_met resource met none =
     any_none (λ one. ⊤) (λ one. shares_place one resource) met (λ one any. ap (λ place. option_map_or (λ p. is_at p one) place false) none) (each_item met)
 
-pub placed_met : (resource : Resource) (place : ℕ) (marks : List Bool) (met : List Resource) → place_of resource ≡ Some place → AreMarks marks met → get_or marks place false ≡ list_any (λ one. shares_place one resource) met
+pub placed_met : (resource : Resource) (place : ℕ) (marks : List Bool) (met : List Resource) → network_place resource ≡ Some place → AreMarks marks met → get_or marks place false ≡ list_any (λ one. shares_place one resource) met
 placed_met resource place marks met is are =
     are.each place ∙ ap (λ there. list_any (λ one. option_map_or (λ p. is_at p one) there false) met) (sym is)
 
 -- marks stay, where a resource is none of the network
-pub unplaced_marks : (resource : Resource) (marks : List Bool) (met : List Resource) → place_of resource ≡ None → AreMarks marks met → AreMarks marks (met ++ resource ∷ [])
+pub unplaced_marks : (resource : Resource) (marks : List Bool) (met : List Resource) → network_place resource ≡ None → AreMarks marks met → AreMarks marks (met ++ resource ∷ [])
 unplaced_marks resource marks met none are = record {
   room = are.room;
   each = λ place.
@@ -43,7 +43,7 @@ unplaced_marks resource marks met none are = record {
 }
 
 -- a mark that is set
-pub placed_marks : (resource : Resource) (place : ℕ) (marks : List Bool) (met : List Resource) → place_of resource ≡ Some place → place < 196608 → AreMarks marks met → AreMarks (slice_set marks place true) (met ++ resource ∷ [])
+pub placed_marks : (resource : Resource) (place : ℕ) (marks : List Bool) (met : List Resource) → network_place resource ≡ Some place → place < 196608 → AreMarks marks met → AreMarks (slice_set marks place true) (met ++ resource ∷ [])
 placed_marks resource place marks met is inside are = record {
   room = length-set marks place true ∙ are.room;
   each = λ at.

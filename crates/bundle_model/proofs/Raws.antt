@@ -1,11 +1,10 @@
 -- What raw numbers mean that keep the rules: numbers in range, and lists of them.
-use Rattle.std.proofs.Common.{◌≡◌, ◌≢◌, ℕ, ℤ, pos, negsuc, ◌+◌, ◌<◌, ◌≤◌, Bool, true, false, not, ◌&&◌, ◌||◌, nat_eq, List, [], ◌∷◌, map, int_le, int_lt, refl, sym, inl, inr, ap, ap₂, ◌∙◌, arith}
+use Rattle.std.proofs.Common.{◌≡◌, ℕ, ℤ, pos, negsuc, ◌<◌, ◌≤◌, true, ◌&&◌, nat_eq, List, [], ◌∷◌, map, int_le, int_lt, refl, sym, inl, inr, ap, ap₂, ◌∙◌, arith}
 use Rattle.std.specs.Prelude.{nat_abs}
-use Rattle.std.specs.List.{list_any, list_all, AllByRecursion}
+use Rattle.std.specs.List.{list_all, AllByRecursion}
 use Rattle.std.specs.Ordering.{int_eq}
 use Rattle.std.proofs.lemmas.Bool.{and_parts, and_from, cases_eq, ltb-true, eq-eqb, le-leb, false_from_ne_true, ne_eqb}
 use Rattle.std.proofs.lemmas.Bool.Decides.{Decides-int_eq}
-use Rattle.std.proofs.lemmas.Int.{ints}
 use Rattle.soc_base.specs.Twins.{has_twin}
 use Rattle.platform_model.specs.Limits.{is_within}
 use Rattle.bundle_model.proofs.Twins.{twins_same, twins_map}

@@ -6,8 +6,8 @@ ghost use Rattle.soc_base.specs.Twins.{has_twin};
 ghost use Rattle.soc_base.specs.declared.limits.TheConstants.{MOST_RESOURCES};
 ghost use Rattle.bundle_model.specs.declared.rules.BRule.TheVariants.{B14};
 ghost use Rattle.bundle_model.specs.Resources.{resources_of};
-ghost use Rattle.bundle_model.specs.inner.Stages.{IsLaidOut, first_late};
-ghost use Rattle.bundle_model.specs.inner.Places.{place_of, shares_place, AreMarks};
+ghost use Rattle.bundle_model.specs.inner.Stages.{KeepsEarly, first_late};
+ghost use Rattle.bundle_model.specs.inner.Places.{network_place, shares_place, AreMarks};
 
 use crate::bundle::Bundle;
 use crate::resource::{Resource, resources};
@@ -25,7 +25,7 @@ pub fn first_overdrawn(
     platform: &Platform,
     bundle: &Bundle,
 ) -> Result<Option<BRule>, NoMemory>
-    requires { IsLaidOut platform.now bundle.now }
+    requires { KeepsEarly platform.now bundle.now }
     ensures { IfOk result (λ rule. rule ≡ first_late (resources_of platform.now bundle.now)) }
 {
     let list = resources(alloc, platform, bundle)?;
@@ -89,7 +89,7 @@ fn mark(marks: &mut Vec<bool>, resource: Resource) -> bool
 
 // The number of a resource of the network.
 fn place(resource: Resource) -> Option<usize>
-    ensures value { result ≡ place_of resource }
+    ensures value { result ≡ network_place resource }
     ensures inside { IfSome result (λ place. place < 196608) }
 {
     match resource {

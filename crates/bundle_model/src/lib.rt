@@ -32,7 +32,19 @@ mod raw;
 mod resource;
 /// The rules of bundle files.
 mod rules;
-/// Tests over whole bundles.
+/// Tests of what bundles hold.
+#[cfg(test)]
+mod claim_tests;
+/// Tests of the rules of ports and pairs.
+#[cfg(test)]
+mod pair_tests;
+/// Tests of the rules of parts.
+#[cfg(test)]
+mod part_tests;
+/// Parts and pairs as rows of tables, for tests.
+#[cfg(test)]
+mod test_rows;
+/// Tests of which resources meet, and of schedules.
 #[cfg(test)]
 mod tests;
 /// What a run knows beforehand, and what is granted in it.

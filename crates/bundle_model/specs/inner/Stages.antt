@@ -1,5 +1,5 @@
 -- The two stages of judging a bundle: by the raw values, and by the list of resources that they mean.
-use Rattle.std.specs.Prelude.{◌≡◌, ◌≢◌, Bool, false, nat_lt, nat_eq, List, [], ◌∷◌, map, length, Option, Some, None, if◌then◌else◌, All, AllPairs}
+use Rattle.std.specs.Prelude.{◌≢◌, Bool, false, nat_lt, nat_eq, List, [], ◌∷◌, map, length, Option, Some, None, if◌then◌else◌, All, AllPairs}
 use Rattle.std.specs.List.{find, IsDistinct}
 use Rattle.soc_base.specs.Twins.{has_twin}
 use Rattle.soc_base.specs.declared.limits.TheConstants.{MOST_RESOURCES}
@@ -36,7 +36,7 @@ first_late list =
     else (if nat_lt MOST_RESOURCES (length list) then Some B14 else None)
 
 -- what is true of a bundle that keeps the rules up to B12
-pub record IsLaidOut (platform : Platform) (bundle : Bundle) : Type 0 where
+pub record KeepsEarly (platform : Platform) (bundle : Bundle) : Type 0 where
   pub some_part : bundle.parts ≢ []
   pub parts : All (IsWellFormedPart platform) bundle.parts
   pub apart : IsDistinct nat_eq (map (λ part. part.tile) bundle.parts)

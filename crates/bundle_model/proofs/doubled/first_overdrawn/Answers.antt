@@ -10,7 +10,7 @@ use Rattle.bundle_model.specs.declared.rules.BRule.{BRule}
 use Rattle.bundle_model.specs.declared.rules.BRule.TheVariants.{B13, B14}
 use Rattle.bundle_model.specs.Resources.{is_same, resources_of}
 use Rattle.bundle_model.specs.inner.Places.{shares_place}
-use Rattle.bundle_model.specs.inner.Stages.{IsLaidOut, first_late}
+use Rattle.bundle_model.specs.inner.Stages.{KeepsEarly, first_late}
 use Rattle.bundle_model.proofs.Apart.{twins_claimed}
 use Rattle.bundle_model.proofs.doubled.first_overdrawn.Goals as goal
 
@@ -20,7 +20,7 @@ twice list found = sym (cond-true (has_twin is_same list) (Some B13) _ found)
 once : (list : List Resource) (rule : Option BRule) → has_twin is_same list ≡ false → rule ≡ (if nat_lt MOST_RESOURCES (length list) then Some B14 else None) → rule ≡ first_late list
 once list rule none is = is ∙ sym (cond-false (has_twin is_same list) (Some B13) _ none)
 
-found : (platform : Platform) (bundle : Bundle) (list : List Resource) (is : Bool) → IsLaidOut platform bundle → list ≡ resources_of platform bundle → is ≡ has_twin shares_place list → is ≡ has_twin is_same (resources_of platform bundle)
+found : (platform : Platform) (bundle : Bundle) (list : List Resource) (is : Bool) → KeepsEarly platform bundle → list ≡ resources_of platform bundle → is ≡ has_twin shares_place list → is ≡ has_twin is_same (resources_of platform bundle)
 found platform bundle list is laid listed marked = marked ∙ ap (has_twin shares_place) listed ∙ twins_claimed platform bundle laid
 
 pub returns-then-branch : goal.returns-then-branch

@@ -1,4 +1,4 @@
-use Rattle.std.proofs.Common.{◌≡◌, Option, Some, None, rules, subst, sym, ap, ◌∙◌}
+use Rattle.std.proofs.Common.{◌≡◌, Option, None, rules, subst, sym, ap, ◌∙◌}
 use Rattle.platform_model.specs.declared.platform.Platform.{Platform}
 use Rattle.bundle_model.specs.declared.raw.RawBundle.{RawBundle}
 use Rattle.bundle_model.specs.declared.bundle.Bundle.{Bundle}
@@ -6,10 +6,9 @@ use Rattle.bundle_model.specs.declared.rules.BRule.{BRule}
 use Rattle.bundle_model.specs.Bundle.{bundle_of}
 use Rattle.bundle_model.specs.Resources.{resources_of}
 use Rattle.bundle_model.specs.Rules.{first_rule}
-use Rattle.bundle_model.specs.WellFormed.{IsWellFormed}
-use Rattle.bundle_model.specs.inner.Stages.{IsLaidOut, first_early, first_late}
+use Rattle.bundle_model.specs.inner.Stages.{KeepsEarly, first_early, first_late}
 use Rattle.bundle_model.proofs.Early.{second_stage}
-use Rattle.bundle_model.proofs.Unbroken.{laid_out, well_formed}
+use Rattle.bundle_model.proofs.Unbroken.{keeps_early, well_formed}
 use Rattle.bundle_model.proofs.judge.check.Goals as goal
 
 late : (platform : Platform) (raw : RawBundle) (bundle : Bundle) (rule : Option BRule) → first_early platform raw ≡ None → bundle ≡ bundle_of raw → rule ≡ first_late (resources_of platform bundle) → first_rule platform raw ≡ rule
@@ -28,10 +27,10 @@ returns-clause-rule c =
 pub returns-clause-well_formed : goal.returns-clause-well_formed
 returns-clause-well_formed c =
     let none : first_early c.args.platform.now c.args.raw.now ≡ None = search rules in
-    let laid = subst (IsLaidOut c.args.platform.now) (sym c.in_ok-bundle.ensures) (laid_out c.args.platform.now c.args.raw.now none) in
+    let laid = subst (KeepsEarly c.args.platform.now) (sym c.in_ok-bundle.ensures) (keeps_early c.args.platform.now c.args.raw.now none) in
     well_formed c.args.platform.now c.in_ok-bundle.bundle laid (sym c.in_ok-rule.ensures ∙ c.in_default-2.is)
 
 pub first_overdrawn-requires : goal.first_overdrawn-requires
 first_overdrawn-requires c =
     let none : first_early c.args.platform.now c.args.raw.now ≡ None = search rules in
-    subst (IsLaidOut c.args.platform.now) (sym c.in_ok-bundle.ensures) (laid_out c.args.platform.now c.args.raw.now none)
+    subst (KeepsEarly c.args.platform.now) (sym c.in_ok-bundle.ensures) (keeps_early c.args.platform.now c.args.raw.now none)
