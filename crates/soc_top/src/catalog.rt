@@ -67,6 +67,7 @@ pub fn bundle_names(alloc: Global, scripts: &[Script]) -> Result<Vec<Text>, NoMe
 }
 
 // Reads and judges a bundle file, and appends it.
+#[tactic(auto, using(crate::proofs::Sound::formed_push))]
 fn add_bundle<F: Files>(
     alloc: Global,
     platform: &Platform,

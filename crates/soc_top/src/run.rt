@@ -20,7 +20,8 @@ use vep_manager::Setup;
 
 // Runs a setup, and writes its report, or the line of a fault at want of memory.
 fn report<S: Sink>(alloc: Global, setup: &Setup, sink: &mut S) -> Ending
-    requires { IsSound setup.now }
+    requires sound { IsSound setup.now }
+    requires one_tile { setup.now.world.platform.tiles ≡ 1 }
     ensures counted { S.faults sink.old ≤ S.faults sink.new }
     ensures concludes { Concludes (IsReportOf setup.now) (S.written sink.old) (S.faults sink.old) (S.written sink.new) (S.faults sink.new) result }
 {
