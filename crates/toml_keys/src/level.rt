@@ -284,48 +284,29 @@ mod tests {
     use crate::read_document;
     use std::test::Fail;
 
-    // The table of a document.
-    fn read(alloc: Global, bytes: &[u8]) -> Result<Table, Fail> {
-        Ok(read_document(alloc, bytes)?)
-    }
-
-    // The integer at a key.
-    fn integer(level: &Level, key: &str) -> i64 {
-        level.integer(key)
-    }
-
     #[test]
     fn reads_what_stands_at_a_key(rt: HostRuntime) -> Result<(), Fail> {
         let bytes =
             b"n = -5\ns = \"hi\"\nns = [3, 1]\nss = [\"a\", \"\"]\nt.n = 7\n[[ts]]\nn = 8\n[[ts]]\nn = 9\n";
-        let table = read(rt.alloc(), bytes)?;
+        let table = read_document(rt.alloc(), bytes)?;
         let level = Level::new(&table);
+        assert_eq!(rt; level.integer("n"), -5);
         assert_eq!(rt; level.integer_or("none", 4), 4);
         assert_eq!(rt; level.text("s"), "hi");
         assert_eq!(rt;
             level.integers(rt.alloc(), "ns")?.as_slice(),
             [3, 1].as_slice()
         );
-        let texts = level.texts(rt.alloc(), "ss")?;
+        let texts = level.texts(rt.alloc(), "ss")?.into_vec();
         assert_eq!(rt; texts.len(), 2);
-        for (text, want) in texts.as_slice().iter().zip(["a", ""]) {
-            assert_eq!(rt; text.as_str(), want);
-        }
-        assert_eq!(rt; integer(&level, "n"), -5);
-        assert_eq!(rt; integer(&level.table("t"), "n"), 7);
+        assert_eq!(rt; texts[0].as_str(), "a");
+        assert_eq!(rt; texts[1].as_str(), "");
+        assert_eq!(rt; level.table("t").integer("n"), 7);
         let tables = level.tables(rt.alloc(), "ts")?;
         assert_eq!(rt; tables.len(), 2);
-        for (table, want) in tables.as_slice().iter().zip([8, 9]) {
-            assert_eq!(rt; integer(table, "n"), want);
-        }
+        assert_eq!(rt; tables[0].integer("n"), 8);
+        assert_eq!(rt; tables[1].integer("n"), 9);
         Ok(())
-    }
-
-    // Whether a document has only keys of the list, and their types.
-    fn judged(alloc: Global, bytes: &[u8], keys: &[Key]) -> Result<(bool, bool), Fail> {
-        let table = read(alloc, bytes)?;
-        let level = Level::new(&table);
-        Ok((level.has_only(keys), level.has_types(keys)))
     }
 
     #[test]
@@ -343,7 +324,10 @@ mod tests {
         ];
         let keys = [required("a", Shape::INTEGER), optional("b", Shape::TEXTS)];
         for (bytes, known, typed) in cases {
-            assert_eq!(rt; judged(rt.alloc(), bytes, &keys)?, (known, typed), "{bytes:?}");
+            let table = read_document(rt.alloc(), bytes)?;
+            let level = Level::new(&table);
+            assert_eq!(rt; level.has_only(&keys), known, "{bytes:?}");
+            assert_eq!(rt; level.has_types(&keys), typed, "{bytes:?}");
         }
         Ok(())
     }
