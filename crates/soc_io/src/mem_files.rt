@@ -138,42 +138,43 @@ mod tests {
     use super::*;
     use std::test::Fail;
 
-    // The bytes that a read gives, or its refusal.
-    fn answer(alloc: Global, files: &mut MemFiles, name: &str) -> Result<Vec<u8>, FilesFault> {
-        let Ok(mut into) = Vec::from_slice(alloc, b"left over") else {
-            return Err(FilesFault::NoMemory);
-        };
-        files.read(alloc, name, &mut into)?;
-        Ok(into)
+    // Files of these names and bytes, whose reads of these numbers fail.
+    fn shelf(alloc: Global, list: &[(&str, &[u8])], fails: Vec<u64>) -> Result<MemFiles, Fail> {
+        let mut files = MemFiles::new(alloc, fails);
+        for (name, bytes) in list {
+            files.add(name, bytes)?;
+        }
+        Ok(files)
     }
 
-    // So many bytes.
-    fn filled(alloc: Global, len: usize) -> Result<Vec<u8>, AllocError> {
-        Vec::from_elem(alloc, b'x', len)
+    // What a read answers, and the bytes that it leaves.
+    fn answer(
+        alloc: Global,
+        files: &mut MemFiles,
+        name: &str,
+    ) -> Result<(Result<(), FilesFault>, Vec<u8>), Fail> {
+        let mut into = Vec::from_slice(alloc, b"left over")?;
+        let result = files.read(alloc, name, &mut into);
+        Ok((result, into))
     }
 
     #[test]
     fn answers_by_name_and_by_call(rt: HostRuntime) -> Result<(), Fail> {
         let alloc = rt.alloc();
-        let mut files = MemFiles::new(alloc, vec![in alloc; 2, 5]?);
-        files.add("a", b"old")?;
-        files.add("b", b"")?;
-        files.add("a", b"new")?;
-        let cases: [(&str, Result<&[u8], FilesFault>); 6] = [
-            ("a", Ok(b"new")),
-            ("a", Err(FilesFault::Failed)),
-            ("b", Ok(b"")),
-            ("c", Err(FilesFault::Absent)),
-            ("c", Err(FilesFault::Failed)),
-            ("a", Ok(b"new")),
+        let list: [(&str, &[u8]); 3] = [("a", b"old"), ("b", b""), ("a", b"new")];
+        let mut files = shelf(alloc, &list, vec![in alloc; 2, 5]?)?;
+        let cases: [(&str, Result<(), FilesFault>, &[u8]); 6] = [
+            ("a", Ok(()), b"new"),
+            ("a", Err(FilesFault::Failed), b""),
+            ("b", Ok(()), b""),
+            ("c", Err(FilesFault::Absent), b""),
+            ("c", Err(FilesFault::Failed), b""),
+            ("a", Ok(()), b"new"),
         ];
-        for (name, want) in cases {
-            let got = answer(alloc, &mut files, name);
-            match (&got, want) {
-                (Ok(bytes), Ok(wanted)) => assert_eq!(rt; bytes.as_slice(), wanted, "of {name}"),
-                (Err(fault), Err(wanted)) => assert_eq!(rt; *fault, wanted, "of {name}"),
-                _ => assert!(rt; false, "of {name}"),
-            }
+        for (name, want, held) in cases {
+            let (result, into) = answer(alloc, &mut files, name)?;
+            assert_eq!(rt; result, want, "of {name}");
+            assert_eq!(rt; into.as_slice(), held, "of {name}");
         }
         Ok(())
     }
@@ -181,15 +182,21 @@ mod tests {
     #[test]
     fn reads_up_to_the_limit(rt: HostRuntime) -> Result<(), Fail> {
         let alloc = rt.alloc();
-        let mut files = MemFiles::new(alloc, Vec::new(alloc));
-        files.add("whole", filled(alloc, MOST_FILE_BYTES)?.as_slice())?;
-        files.add("long", filled(alloc, MOST_FILE_BYTES + 1)?.as_slice())?;
-        let whole = answer(alloc, &mut files, "whole")?;
-        assert_eq!(rt; whole.len(), MOST_FILE_BYTES);
-        let mut into = Vec::from_slice(alloc, b"left over")?;
-        let long = files.read(alloc, "long", &mut into);
-        assert_eq!(rt; long, Err(FilesFault::TooLong));
-        assert!(rt; into.is_empty());
+        let long = Vec::from_elem(alloc, b'x', MOST_FILE_BYTES + 1)?;
+        let list: [(&str, &[u8]); 2] = [
+            ("whole", &long.as_slice()[1..]),
+            ("long", long.as_slice()),
+        ];
+        let mut files = shelf(alloc, &list, Vec::new(alloc))?;
+        let cases = [
+            ("whole", Ok(()), MOST_FILE_BYTES),
+            ("long", Err(FilesFault::TooLong), 0),
+        ];
+        for (name, want, len) in cases {
+            let (result, into) = answer(alloc, &mut files, name)?;
+            assert_eq!(rt; result, want, "of {name}");
+            assert_eq!(rt; into.len(), len, "of {name}");
+        }
         Ok(())
     }
 }
