@@ -23,7 +23,7 @@ and_false : (b : Bool) → (b && false) ≡ false
 and_false true = refl
 and_false false = refl
 
-there_at : (pairs : List Pair) (k : ℕ) (pair : Pair) → slice_get pairs k ≡ Some pair
+pub there_at : (pairs : List Pair) (k : ℕ) (pair : Pair) → slice_get pairs k ≡ Some pair
     → slice_get (flat_map pair_ways pairs) (k * 2) ≡ Some (way_of pair.a pair.b pair.there)
 there_at [] k pair at = absurd (none-some pair at)
 there_at (first ∷ pairs) zero pair at = ap (λ (p : Pair). Some (way_of p.a p.b p.there)) (same_Some first pair at)
@@ -31,7 +31,7 @@ there_at (first ∷ pairs) (suc k) pair at =
     let e : suc k * 2 ≡ suc (suc (k * 2)) = omega arith in
     ap (slice_get (flat_map pair_ways (first ∷ pairs))) e ∙ there_at pairs k pair at
 
-back_at : (pairs : List Pair) (k : ℕ) (pair : Pair) → slice_get pairs k ≡ Some pair
+pub back_at : (pairs : List Pair) (k : ℕ) (pair : Pair) → slice_get pairs k ≡ Some pair
     → slice_get (flat_map pair_ways pairs) (k * 2 + 1) ≡ Some (way_of pair.b pair.a pair.back)
 back_at [] k pair at = absurd (none-some pair at)
 back_at (first ∷ pairs) zero pair at = ap (λ (p : Pair). Some (way_of p.b p.a p.back)) (same_Some first pair at)

@@ -65,8 +65,8 @@ alone_fits platform bundle start end =
     (alone_keeps platform bundle start end PartFits (parts_fit platform bundle (start * platform.slot_cycles)) (λ part. record { room = refl; few = omega arith }))
 
 -- its part is always the same
-same_part : (platform : Platform) (bundle : Bundle) (start : ℕ) (part : Part) → IsKeptInSlots platform bundle start (λ p. p.part ≡ part)
-same_part platform bundle start part = record {
+pub part_stays : (platform : Platform) (bundle : Bundle) (start : ℕ) (part : Part) → IsKeptInSlots platform bundle start (λ p. p.part ≡ part)
+part_stays platform bundle start part = record {
   injects = λ slot p same. same;
   steps = λ cycle p same.
       step_by platform start cycle (λ q. q.part ≡ part) p (runs (frame_of platform) (slots_of p.part.slots) start cycle) _ same same;
@@ -77,7 +77,7 @@ slot_part : (platform : Platform) (bundle : Bundle) (start slot : ℕ) (flying :
     → map (λ p. p.part) (map (part_slot platform bundle start slot flying) parts) ≡ map (λ p. p.part) parts
 slot_part platform bundle start slot flying [] = refl
 slot_part platform bundle start slot flying (p ∷ parts) =
-    ap₂ (λ (x : Part) (xs : List Part). x ∷ xs) (slot_keeps platform bundle start (λ q. q.part ≡ p.part) (same_part platform bundle start p.part) slot flying p refl)
+    ap₂ (λ (x : Part) (xs : List Part). x ∷ xs) (slot_keeps platform bundle start (λ q. q.part ≡ p.part) (part_stays platform bundle start p.part) slot flying p refl)
     (slot_part platform bundle start slot flying parts)
 
 slots_part : (platform : Platform) (bundle : Bundle) (start from n : ℕ) (app : AppState)

@@ -12,4 +12,8 @@ pub mod Steps
 pub mod OwnPorts
 pub mod Run
 pub mod Merged
+pub mod Sound
+pub mod PortPlaces
+pub mod Balance
+pub mod CreditLaw
 pub mod Laws

@@ -11,6 +11,8 @@ mod application;
 mod engine;
 /// What the channels of an application do in a slot.
 mod exchange;
+/// Laws of the definitions.
+mod law;
 /// One part with registers, a memory and ports of its own.
 mod part;
 /// The ports of a part, which inject and receive in the slots of their channels.
@@ -23,4 +25,5 @@ mod trace;
 mod tests;
 
 pub use engine::alone;
+pub use law::credits_balance;
 pub use trace::{AppTrace, PartTrace};
