@@ -30,7 +30,7 @@ pub struct Source {
 }
 
 // Judges the bytes of a script of a name.
-#[tactic(auto, using(crate::proofs::Scripts::few_meant, crate::proofs::Scripts::cycles_meant))]
+#[tactic(auto, using(crate::proofs::Scripts::cycles_stated))]
 fn judge_script(alloc: Global, name: &Text, bytes: &[u8], room: u16) -> Result<Script, TopFault>
     requires { length bytes.now ≤ MOST_FILE_BYTES }
     ensures means { IfOk result (λ script. Means (ScriptWant name.now room) bytes.now (ScriptRead script)) }
