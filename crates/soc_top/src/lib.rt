@@ -52,3 +52,6 @@ mod run_tests;
 /// One run over files and a sink in memory.
 #[cfg(test)]
 mod tests;
+/// Platforms of several tiles.
+#[cfg(test)]
+mod tiles_tests;

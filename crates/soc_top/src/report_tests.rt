@@ -196,6 +196,50 @@ fn reports(rt: HostRuntime) -> Result<(), Fail> {
             ("load a.toml at 0\n", ""),
             "384\ncommand 1 1 load a.toml at 0: granted 1.1 at 0\ncommand 2 1 load a.toml at 0: taken partition 0 0 by 1.1 free none\napp 1.1 a.toml from 0 to 384\n77 0 word 00000007\npart 0 halt 00000000 at 78 cut 0\n",
         ),
+        // A promise, a load below it, and one at it.
+        (
+            frame,
+            "2048 s.txt",
+            ("until 1024\nload a.toml at 1016\nload a.toml at 1024\n", ""),
+            "2048\ncommand 1 1 until 1024: horizon 1024\ncommand 1 2 load a.toml at 1016: past 1024\ncommand 1 3 load a.toml at 1024: granted 1.2 at 1024\napp 1.2 a.toml from 1024 to 2048\n1101 0 word 00000007\npart 0 halt 00000000 at 1102 cut 0\n",
+        ),
+        // Stops before the start, after the end, and of a load that isn't there.
+        (
+            frame,
+            "512 s.txt",
+            (
+                "load a.toml at 256\nstop 1 at 128\nstop 1 at 300\nstop 2 at 300\n",
+                "",
+            ),
+            "512\ncommand 1 1 load a.toml at 256: granted 1.1 at 256\ncommand 1 2 stop 1 at 128: stopped 1.1 at 256\ncommand 1 3 stop 1 at 300: already 256\ncommand 1 4 stop 2 at 300: no load\napp 1.1 a.toml from 256 to 256\npart 0 live cut 0\n",
+        ),
+        // A place is free from the slot after the stop on, and granted again.
+        (
+            frame,
+            "512 s.txt",
+            (
+                "load a.toml at 0\nstop 1 at 152\nload odd.toml at 152\nload odd.toml at 160\n",
+                "",
+            ),
+            "512\ncommand 1 1 load a.toml at 0: granted 1.1 at 0\ncommand 1 2 stop 1 at 152: stopped 1.1 at 152\ncommand 1 3 load odd.toml at 152: taken partition 0 0 by 1.1 free 160\ncommand 1 4 load odd.toml at 160: granted 1.3 at 160\napp 1.1 a.toml from 0 to 152\n77 0 word 00000007\npart 0 halt 00000000 at 78 cut 0\napp 1.3 odd.toml from 160 to 512\npart 0 fault align at 329 cut 0\n",
+        ),
+        // A part is stopped while it runs, in its partition slot: its second word is stored in cycle 80.
+        (
+            frame,
+            "512 s.txt",
+            ("load five.toml at 0\nstop 1 at 80\n", ""),
+            "512\ncommand 1 1 load five.toml at 0: granted 1.1 at 0\ncommand 1 2 stop 1 at 80: stopped 1.1 at 80\napp 1.1 five.toml from 0 to 80\n76 0 word 80000000\npart 0 live cut 0\n",
+        ),
+        // Two sessions, of which one stops its own.
+        (
+            frame,
+            "256 s.txt t.txt",
+            (
+                "load a.toml at 0\n",
+                "load a2.toml at 8\nstop 1 at 224\n",
+            ),
+            "256\ncommand 1 1 load a.toml at 0: granted 1.1 at 0\ncommand 2 1 load a2.toml at 8: granted 2.1 at 8\ncommand 2 2 stop 1 at 224: stopped 2.1 at 224\napp 1.1 a.toml from 0 to 256\n77 0 word 00000007\npart 0 halt 00000000 at 78 cut 0\napp 2.1 a2.toml from 8 to 224\n205 0 word 00000007\npart 0 halt 00000000 at 206 cut 0\n",
+        ),
     ];
     for (frame, words, scripts, report) in cases {
         let mut shelf = shelf_of_bundles(alloc)?;
