@@ -1,10 +1,10 @@
 -- The law of credits, slot by slot: what a port gives away flies, what flies goes from link to link, and
 -- what lands is taken in.
-use Rattle.std.proofs.Common.{◌≡◌, ◌≢◌, ℕ, zero, suc, ◌+◌, ◌-◌, ◌*◌, ◌%◌, ◌<◌, ◌≤◌, min, nat_lt, Bool, true, false, not, cond, ◌==◌, ◌&&◌, List, [], ◌∷◌, ◌++◌, map, filter, find, length, slice_get, Option, Some, None, refl, sym, ap, ap₂, ◌∙◌, subst, inl, inr, arith}
+use Rattle.std.proofs.Common.{◌≡◌, ℕ, zero, suc, ◌+◌, ◌-◌, ◌%◌, ◌<◌, ◌≤◌, min, nat_lt, Bool, true, false, not, cond, ◌==◌, ◌&&◌, List, [], ◌∷◌, ◌++◌, map, find, length, slice_get, Option, Some, None, refl, sym, ap, ap₂, ◌∙◌, subst, inl, inr, arith}
 use Rattle.std.specs.List.{list_any}
 use Rattle.std.specs.Option.{option_map_or}
 use Rattle.std.proofs.lemmas.Bool.{cases_Bool, cond-true, cond-false, and_parts, and_from, and_left, and_right, or_left, or_right, or_cases, eqb-true, eq-eqb, ne_eqb, lt-ltb, false≢true, false_from_ne_true}
-use Rattle.std.proofs.lemmas.Option.{none-some, same_Some, slice_get-map}
+use Rattle.std.proofs.lemmas.Option.{none-some, same_Some}
 use Rattle.std.proofs.lemmas.List.{length-append}
 use Rattle.soc_base.specs.Time.{is_among}
 use Rattle.soc_base.specs.Port.{WordAndCredits, PortState, idle, inject, inject_from, receive, deliver}
@@ -16,10 +16,10 @@ use Rattle.bundle_model.specs.Ways.{Way, ways_of}
 use Rattle.bundle_model.specs.WellFormed.{IsHeldEnd, IsWellFormed}
 use Rattle.bundle_model.proofs.Laws.{way_at, one_source, one_target, none_found, filtered_place}
 use Rattle.part_model.proofs.Laws.{IsSamePort}
-use Rattle.alone_model.specs.Network.{AppPart, Flying, with_ports, is_end, injects, injected, port_of, new_flits, is_due, lands, delivered, flit_on}
-use Rattle.alone_model.specs.App.{AppState, with_new}
+use Rattle.alone_model.specs.Network.{AppPart, Flying, with_ports, is_end, injects, injected, new_flits, is_due, lands, delivered, flit_on}
+use Rattle.alone_model.specs.App.{AppState}
 use Rattle.alone_model.specs.Slots.{part_cycles, app_slot}
-use Rattle.alone_model.specs.Credits.{sum_below, words_of, words_on, credits_on, before_due, HasPlaces, LosesNothing}
+use Rattle.alone_model.specs.Credits.{sum_below, words_of, words_on, credits_on, before_due}
 use Rattle.alone_model.proofs.Cycle.{map_twice}
 use Rattle.alone_model.proofs.Finding.{find_later, find_same}
 use Rattle.alone_model.proofs.Flight.{next_hop, first_hop, new_at, is_on}

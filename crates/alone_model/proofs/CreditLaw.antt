@@ -1,19 +1,19 @@
 -- The law of credits.
-use Rattle.std.proofs.Common.{◌≡◌, ℕ, zero, suc, ◌+◌, ◌-◌, ◌*◌, ◌≤◌, List, map, find, length, slice_get, Some, option_map, refl, sym, ap, ◌∙◌, subst, arith}
+use Rattle.std.proofs.Common.{◌≡◌, ℕ, zero, suc, ◌+◌, ◌-◌, ◌*◌, ◌≤◌, map, find, length, slice_get, Some, option_map, refl, sym, ap, ◌∙◌, subst, arith}
 use Rattle.std.specs.Option.{option_map_or}
 use Rattle.std.proofs.lemmas.Option.{slice_get-map}
 use Rattle.soc_base.specs.Port.{WordAndCredits, PortState, idle}
-use Rattle.ni_port.specs.SizedPort.{SizedPort, granted_sized}
+use Rattle.ni_port.specs.SizedPort.{granted_sized}
 use Rattle.platform_model.specs.declared.platform.Platform.{Platform}
 use Rattle.bundle_model.specs.declared.bundle.End.{End}
 use Rattle.bundle_model.specs.declared.bundle.Bundle.{Bundle}
 use Rattle.bundle_model.specs.Ways.{Way, way_of, ways_of}
 use Rattle.bundle_model.specs.WellFormed.{IsHeldEnd, IsWellFormed}
 use Rattle.bundle_model.proofs.Laws.{way_at}
-use Rattle.alone_model.specs.Network.{AppPart, Flying, with_ports, injected, port_of, lands, flit_on}
+use Rattle.alone_model.specs.Network.{Flying, with_ports, injected, port_of, lands, flit_on}
 use Rattle.alone_model.specs.App.{AppState, opening_part, opening, with_new, alone_at}
-use Rattle.alone_model.specs.Slots.{part_cycles, app_slot}
-use Rattle.alone_model.specs.Credits.{sum_below, words_of, words_on, credits_on, IsBalanced, before_due, HasPlaces, LosesNothing, CreditsBalance}
+use Rattle.alone_model.specs.Slots.{part_cycles}
+use Rattle.alone_model.specs.Credits.{sum_below, words_of, words_on, credits_on, IsBalanced, before_due, HasPlaces, CreditsBalance}
 use Rattle.alone_model.proofs.Channels.{there_at, back_at}
 use Rattle.alone_model.proofs.Cycle.{alone_begins, alone_next}
 use Rattle.alone_model.proofs.Kept.{cycles_keep}
@@ -90,8 +90,10 @@ module _ (platform : Platform) (bundle : Bundle) (well : IsWellFormed platform b
         let near = port_of_at platform bundle (alone slot).parts way.from source is.near well parts is.near_at in
         let far = port_of_at platform bundle (alone slot).parts way.to target is.far well parts is.far_at in
         let sum = is.sum in
-        record { sum = ap (λ (p : PortState). p.credit + words_on (alone slot).flying slot n way + (length (port_of (alone slot).parts way.to).recv + (port_of (alone slot).parts way.to).owed) + credits_on (alone slot).flying slot r back) near
-        ∙ ap (λ (p : PortState). is.near.port.credit + words_on (alone slot).flying slot n way + (length p.recv + p.owed) + credits_on (alone slot).flying slot r back) far ∙ sum }
+        record {
+          sum = ap (λ (p : PortState). p.credit + words_on (alone slot).flying slot n way + (length (port_of (alone slot).parts way.to).recv + (port_of (alone slot).parts way.to).owed) + credits_on (alone slot).flying slot r back) near
+              ∙ ap (λ (p : PortState). is.near.port.credit + words_on (alone slot).flying slot n way + (length p.recv + p.owed) + credits_on (alone slot).flying slot r back) far ∙ sum;
+        }
 
     abbrev late : ℕ → AppState
     late slot = before_due platform bundle first slot (alone slot)
@@ -144,12 +146,13 @@ credits_balance platform bundle start slot place pair well begun at =
     let n_there = there_at bundle.pairs place pair at in
     let r_there = back_at bundle.pairs place pair at in
     let a = (way_at platform bundle n there well n_there).source in
-    let b = (way_at platform bundle n there well n_there).target in
-    (balanced platform bundle well start n r there back n_there r_there refl refl a b slot begun,
-     balanced platform bundle well start r n back there r_there n_there refl refl b a slot begun,
-     (λ f found. places_by platform late pair.a _ f.flit (landed platform bundle well start r n back there r_there n_there refl refl b a slot begun f found)
-     (word_place platform bundle well start r n back there r_there n_there refl refl b a slot begun)
-     (credit_place platform bundle well start n r there back n_there r_there refl refl a b slot begun)),
-     (λ f found. places_by platform late pair.b _ f.flit (landed platform bundle well start n r there back n_there r_there refl refl a b slot begun f found)
-     (word_place platform bundle well start n r there back n_there r_there refl refl a b slot begun)
-     (credit_place platform bundle well start r n back there r_there n_there refl refl b a slot begun)))
+    let b = (way_at platform bundle n there well n_there).target in (
+      balanced platform bundle well start n r there back n_there r_there refl refl a b slot begun,
+      balanced platform bundle well start r n back there r_there n_there refl refl b a slot begun,
+      (λ f found. places_by platform late pair.a _ f.flit (landed platform bundle well start r n back there r_there n_there refl refl b a slot begun f found)
+          (word_place platform bundle well start r n back there r_there n_there refl refl b a slot begun)
+          (credit_place platform bundle well start n r there back n_there r_there refl refl a b slot begun)),
+      (λ f found. places_by platform late pair.b _ f.flit (landed platform bundle well start n r there back n_there r_there refl refl a b slot begun f found)
+          (word_place platform bundle well start n r there back n_there r_there refl refl a b slot begun)
+          (credit_place platform bundle well start r n back there r_there n_there refl refl b a slot begun)),
+    )

@@ -1,12 +1,12 @@
 -- The port at an end, by the place of its part and its own place there, and how it goes through a slot.
-use Rattle.std.proofs.Common.{◌≡◌, ℕ, zero, suc, ◌+◌, ◌-◌, ◌*◌, ◌<◌, ◌≤◌, Bool, true, false, cond, ◌==◌, List, [], ◌∷◌, ◌++◌, map, find, length, get_or, slice_get, Option, Some, None, option_map, refl, sym, ap, ap₂, ◌∙◌, subst, arith}
+use Rattle.std.proofs.Common.{◌≡◌, ℕ, zero, suc, ◌+◌, ◌*◌, ◌<◌, Bool, true, false, cond, ◌==◌, List, [], ◌∷◌, map, length, get_or, slice_get, Some, option_map, refl, sym, ap, ap₂, ◌∙◌, subst, arith}
 use Rattle.std.specs.Option.{option_map_or}
 use Rattle.std.proofs.lemmas.Bool.{cond-true, cond-false, eqb-true, eq-eqb, ne_eqb}
 use Rattle.std.proofs.lemmas.Option.{none-some, same_Some, slice_get-map, slice_get_within, slice_get-get_or, get_or_from_slice_get}
 use Rattle.soc_base.specs.Steps.{after_steps}
 use Rattle.soc_base.specs.Time.{runs}
 use Rattle.soc_base.specs.Slots.{slots_of}
-use Rattle.soc_base.specs.Port.{PortState, free_port}
+use Rattle.soc_base.specs.Port.{free_port}
 use Rattle.ni_port.specs.SizedPort.{SizedPort}
 use Rattle.platform_model.specs.declared.platform.Platform.{Platform}
 use Rattle.platform_model.specs.Platform.{frame_of}
@@ -86,13 +86,16 @@ pub cycled_at : (platform : Platform) (bundle : Bundle) (start slot : ℕ) (part
     → IsPortAt parts k j part p
     → (c : SizedPort) × IsSamePort p c × IsPortAt (map (part_cycles platform start slot) parts) k j part c
 cycled_at platform bundle start slot parts k j part p at =
-    let moved = steps_port platform start (slot * platform.slot_cycles) platform.slot_cycles at.one j p at.port in
-    (moved.0, moved.2, record {
-      one = part_cycles platform start slot at.one;
-      there = slice_get-map (part_cycles platform start slot) parts k ∙ ap (option_map (part_cycles platform start slot)) at.there;
-      its = cycles_keep platform bundle start (λ q. q.part ≡ part) (part_stays platform bundle start part) _ _ at.one at.its;
-      port = moved.1;
-    })
+    let moved = steps_port platform start (slot * platform.slot_cycles) platform.slot_cycles at.one j p at.port in (
+      moved.0,
+      moved.2,
+      record {
+        one = part_cycles platform start slot at.one;
+        there = slice_get-map (part_cycles platform start slot) parts k ∙ ap (option_map (part_cycles platform start slot)) at.there;
+        its = cycles_keep platform bundle start (λ q. q.part ≡ part) (part_stays platform bundle start part) _ _ at.one at.its;
+        port = moved.1;
+      },
+    )
 
 -- what changes parts and leaves of which bundle they are
 pub parts_same : (f : AppPart → AppPart) (parts : List AppPart) → ((p : AppPart) → (f p).part ≡ p.part)

@@ -1,22 +1,22 @@
 -- What is true of an application alone in every slot: its flits were injected in slots of their channels,
 -- and before the slot at hand; each port has the platform's queues, and no more credit than they have places.
-use Rattle.std.proofs.Common.{◌≡◌, ℕ, zero, suc, ◌+◌, ◌-◌, ◌*◌, ◌%◌, ◌<◌, ◌≤◌, ◌⊎◌, Bool, true, false, not, cond, ◌==◌, List, [], ◌∷◌, ◌++◌, map, filter, find, length, get_or, slice_get, All, Option, Some, None, refl, sym, ap, ◌∙◌, subst, inl, inr, arith}
+use Rattle.std.proofs.Common.{◌≡◌, ℕ, zero, suc, ◌+◌, ◌-◌, ◌*◌, ◌%◌, ◌<◌, ◌≤◌, ◌⊎◌, Bool, true, false, not, cond, ◌==◌, List, [], ◌∷◌, ◌++◌, map, find, length, get_or, slice_get, Option, Some, None, refl, sym, ap, ◌∙◌, subst, inl, inr, arith}
 use Rattle.std.specs.Option.{option_map_or}
 use Rattle.std.proofs.lemmas.Option.{none-some, same_Some, slice_get_within, slice_get-get_or, get_or_from_slice_get}
 use Rattle.soc_base.specs.Steps.{after_steps}
 use Rattle.soc_base.specs.Time.{is_among, runs}
 use Rattle.soc_base.specs.Slots.{slots_of}
-use Rattle.soc_base.specs.Port.{PortState, inject, inject_from, deliver}
+use Rattle.soc_base.specs.Port.{PortState, inject_from}
 use Rattle.ni_port.specs.SizedPort.{SizedPort, after_inject, after_deliver, granted_sized}
 use Rattle.platform_model.specs.declared.platform.Platform.{Platform}
 use Rattle.platform_model.specs.Platform.{frame_of}
 use Rattle.bundle_model.specs.declared.bundle.Part.{Part}
 use Rattle.bundle_model.specs.declared.bundle.Bundle.{Bundle}
 use Rattle.bundle_model.specs.Ways.{Way, ways_of}
-use Rattle.part_model.proofs.Laws.{IsSamePort, AreSamePorts, cycle_ports}
+use Rattle.part_model.proofs.Laws.{AreSamePorts, cycle_ports}
 use Rattle.bundle_model.proofs.Laws.{at_place, filtered_place}
 use Rattle.alone_model.specs.Network.{AppPart, Flying, each_port, with_ports, injects, injected, new_flits, is_due, lands, delivered}
-use Rattle.alone_model.specs.App.{AppState, place_of, opening_part, opening, part_step, alone_at}
+use Rattle.alone_model.specs.App.{AppState, place_of, opening_part, opening, alone_at}
 use Rattle.alone_model.specs.Slots.{app_slot}
 use Rattle.alone_model.proofs.Cycle.{alone_is_slots}
 use Rattle.alone_model.proofs.Flight.{new_at}

@@ -25,5 +25,5 @@ mod trace;
 mod tests;
 
 pub use engine::alone;
-pub use law::credits_balance;
+pub use law::{alone_is_slots, credits_balance};
 pub use trace::{AppTrace, PartTrace};
