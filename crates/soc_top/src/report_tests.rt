@@ -234,10 +234,7 @@ fn reports(rt: HostRuntime) -> Result<(), Fail> {
         (
             frame,
             "256 s.txt t.txt",
-            (
-                "load a.toml at 0\n",
-                "load a2.toml at 8\nstop 1 at 224\n",
-            ),
+            ("load a.toml at 0\n", "load a2.toml at 8\nstop 1 at 224\n"),
             "256\ncommand 1 1 load a.toml at 0: granted 1.1 at 0\ncommand 2 1 load a2.toml at 8: granted 2.1 at 8\ncommand 2 2 stop 1 at 224: stopped 2.1 at 224\napp 1.1 a.toml from 0 to 256\n77 0 word 00000007\npart 0 halt 00000000 at 78 cut 0\napp 2.1 a2.toml from 8 to 224\n205 0 word 00000007\npart 0 halt 00000000 at 206 cut 0\n",
         ),
     ];

@@ -7,6 +7,7 @@ use std::test::Fail;
 // Two tiles with a link each way, and queues of eight words or of one.
 const TWO: &str =
     "tiles = 2\nmem_bytes = 4096\nslot_cycles = 8\ntable_slots = 8\nkernel_cycles = 72\npartition_cycles = 56\npartition_slots = 2\nports = 2\nqueue = 8\n[[link]]\nfrom = 0\nout = 0\nto = 1\ninput = 0\n[[link]]\nfrom = 1\nout = 0\nto = 0\ninput = 0\n";
+
 const QUEUES_OF_ONE: &str =
     "tiles = 2\nmem_bytes = 4096\nslot_cycles = 8\ntable_slots = 8\nkernel_cycles = 72\npartition_cycles = 56\npartition_slots = 2\nports = 2\nqueue = 1\n[[link]]\nfrom = 0\nout = 0\nto = 1\ninput = 0\n[[link]]\nfrom = 1\nout = 0\nto = 0\ninput = 0\n";
 
