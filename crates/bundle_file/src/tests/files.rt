@@ -72,12 +72,13 @@ there = { path = [0], slots = [1] }
 back = { path = [1], slots = [5] }
 ";
 
-/// Two bundles on three tiles that both want slot 3 of link 1.
+/// One of two bundles on three tiles that both want slot 3 of link 1.
 pub const P: &str = "version = 1
 part = [{ tile = 0, slots = [0], base = 0, len = 64, entry = 0, trace = 16, kinds = [\"send\"], ports = [0], image = \"370300802320631073000000\" }, { tile = 2, slots = [0], base = 0, len = 64, entry = 0, trace = 16, kinds = [\"recv\"], ports = [0], image = \"370300808322431073000000\" }]
 pair = [{ a = [0, 0], b = [2, 0], there = { path = [0, 1], slots = [1] }, back = { path = [2, 3], slots = [5] } }]
 ";
 
+/// The other one, with its pair's channels spelt by dotted keys and by a table.
 pub const Q: &str = "version = 1
 part = [{ tile = 1, slots = [1], base = 64, len = 64, entry = 0, trace = 16, kinds = [\"recv\"], ports = [0], image = \"73000000\" }, { tile = 2, slots = [1], base = 64, len = 64, entry = 0, trace = 16, kinds = [\"recv\"], ports = [1], image = \"370300808322431073000000\" }]
 [[pair]]
@@ -90,9 +91,10 @@ slots = [0]
 path = [2]
 ";
 
-/// The links of two tiles, and of three.
+/// The links of two tiles: from, out, to and input of each.
 pub const TWO: [[i64; 4]; 2] = [[0, 0, 1, 0], [1, 0, 0, 0]];
 
+/// The links of three tiles in a row, likewise.
 pub const THREE: [[i64; 4]; 4] = [[0, 0, 1, 0], [1, 0, 2, 0], [2, 0, 1, 1], [1, 1, 0, 0]];
 
 /// The file of these lines with another line for a key, and with more lines at its end.
