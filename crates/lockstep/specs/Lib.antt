@@ -1,0 +1,5 @@
+pub mod Hardware
+pub mod Lockstep
+pub mod Solution
+pub mod Seen
+pub mod Stays
