@@ -1,0 +1,9 @@
+pub mod Lists
+pub mod Spans
+pub mod Staying
+pub mod Turns
+pub mod Slots
+pub mod Commands
+pub mod Events
+pub mod Least
+pub mod Laws
