@@ -76,7 +76,7 @@ same_modest platform before after j port same modest there =
     let was = modest j old (slice_get-get_or before j port below) in
     subst (IsModest platform) is (one.queue ∙ was.0, omega (arith, one.credit, was.1))
 
-modest_kept : (platform : Platform) (bundle : Bundle) (start : ℕ) → IsKeptInSlots platform bundle start (AreModest platform)
+pub modest_kept : (platform : Platform) (bundle : Bundle) (start : ℕ) → IsKeptInSlots platform bundle start (AreModest platform)
 modest_kept platform bundle start = record {
   injects = λ slot p modest. changed_modest platform (injected platform bundle slot) p (λ n port low. injected_modest platform bundle slot p.part.tile n port low) modest;
   steps = λ cycle p modest.

@@ -1,82 +1,65 @@
--- The machine follows its grants: each tile holds its parts, each as it is alone.
-use Rattle.std.proofs.Common.{◌≡◌, ℕ, zero, suc, ◌+◌, ◌*◌, ◌<◌, List, [], slice_get, Option, Some, None, option_and_then, refl, sym, subst, ap, ◌∙◌, arith}
-use Rattle.std.specs.List.{range_with_len}
-use Rattle.std.proofs.lemmas.Option.{none-some, same_Some}
-use Rattle.soc_base.specs.Steps.{after_steps}
-use Rattle.rv_core.specs.Registers.{fresh_registers}
+-- The machine follows its grants: each tile holds its parts, each as it is alone, and each link carries what
+-- flies on it alone.
+use Rattle.std.proofs.Common.{◌≡◌, ℕ, ◌+◌, ◌<◌, List, slice_get, Option, Some, option_and_then, sym, subst, ap, ◌∙◌}
+use Rattle.std.proofs.lemmas.Option.{option_and_then_some}
+use Rattle.soc_base.specs.Port.{WordAndCredits, idle}
+use Rattle.platform_model.specs.declared.link.Link.{Link}
 use Rattle.bundle_model.specs.declared.bundle.Part.{Part}
 use Rattle.bundle_model.specs.declared.world.World.{World}
 use Rattle.bundle_model.specs.declared.world.LoadName.{LoadName}
 use Rattle.bundle_model.specs.declared.world.Grant.{Grant}
-use Rattle.bundle_model.specs.Grants.{IsApart}
-use Rattle.bundle_model.specs.World.{IsSoundWorld, AreOfLoads, part_on}
-use Rattle.bundle_model.proofs.Laws.{mapped_place}
-use Rattle.trace_log.specs.Log.{new_log}
+use Rattle.bundle_model.specs.World.{same_label, part_on}
+use Rattle.bundle_model.proofs.Laws.{found_place, same_so}
 use Rattle.part_model.specs.Part.{PartState}
-use Rattle.tile_core.specs.Tile.{TileState, fresh_tile, load_part}
+use Rattle.grant_tables.specs.Tables.{AreTabled}
+use Rattle.grant_tables.specs.Law.{AreSound}
+use Rattle.grant_tables.proofs.Laws.{deliveries_are_read, injects_are_read, tables_go_on}
+use Rattle.tdm_network.specs.Rows.{injecting}
+use Rattle.tdm_network.specs.Routing.{routed}
+use Rattle.lockstep.specs.Lockstep.{Machine}
+use Rattle.tile_core.specs.Tile.{TileState, load_part}
 use Rattle.tile_core.specs.Cycle.{words_of}
-use Rattle.tile_core.specs.Slot.{grant_of, tile_slot}
-use Rattle.tile_core.specs.Fit.{IsMadeFor}
-use Rattle.tile_core.specs.Views.{view_slot, views_slot, place_grant}
+use Rattle.tile_core.specs.Slot.{grant_of, with_grants, tile_slot}
+use Rattle.tile_core.specs.Fit.{IsMadeFor, IsFit}
+use Rattle.tile_core.specs.Views.{view_slot, views_slot, place_grant, slot_exchange}
 use Rattle.tile_core.specs.Holds.{HoldsGranted}
-use Rattle.tile_core.specs.Lockstep.{Machine, fresh_machine, machine_slot, lockstep}
-use Rattle.tile_core.proofs.Laws.{holds_first, fresh_made, fresh_at, slot_holds, slot_made, slot_at, slot_number, slot_loads}
-use Rattle.event_core.proofs.Runs.{run_by, run_before, run_slot}
+use Rattle.tile_core.proofs.Laws.{IsSite, site_of, bundle_is, granted_alike, granted_tables, slot_goes_on, slot_holds}
+use Rattle.event_core.proofs.Settled.{IsSettled}
+use Rattle.event_core.proofs.Ports.{LinksCarry, inputs_on}
+use Rattle.event_core.proofs.Views.{view_by, view_at}
+use Rattle.event_core.proofs.Slots.{IsExchange, IsGrantOn, view_next}
 
--- what every lemma here is about
-pub record IsSettled (world : World) (loads : List LoadName) (grants : List Grant) : Type 0 where
-  pub sound : IsSoundWorld world loads
-  pub apart : IsApart world grants
-  pub of_loads : AreOfLoads loads grants
-
--- what a place is without a part
-abbrev no_part : PartState
-no_part = record { regs = fresh_registers 0; left = 0; bytes = []; ports = []; log = new_log 0 }
-
--- the part of a place by itself, at the beginning of a slot
-abbrev pub view_by : World → Option Grant → ℕ → Option Part → PartState
-view_by world grant slot None = no_part
-view_by world grant slot (Some part) = run_by world part grant (slot * world.platform.slot_cycles)
-
-abbrev pub view_at : World → List Grant → ℕ → TileState → ℕ → PartState
-view_at world grants slot tile place = view_by world (place_grant grants tile place) slot (load_part world tile place)
-
--- the same, told by the tile's number and loads
-abbrev part_in : World → ℕ → List LoadName → ℕ → Option Part
-part_in world number loads place = option_and_then (λ load. part_on world number load.bundle) (slice_get loads place)
-
-abbrev view_in : World → List Grant → ℕ → ℕ → List LoadName → ℕ → PartState
-view_in world grants slot number loads place = view_by world (option_and_then (λ load. grant_of grants load.label) (slice_get loads place)) slot (part_in world number loads place)
-
-parts_same : (world : World) (t after : TileState) (place : ℕ) → after.number ≡ t.number → after.loads ≡ t.loads → load_part world after place ≡ load_part world t place
-parts_same world t after place number loads =
-    ap (λ (ls : List LoadName). part_in world after.number ls place) loads ∙ ap (λ n. part_in world n t.loads place) number
-
--- the tile follows the grants, at the beginning of a slot
-pub record FollowsOn (world : World) (loads : List LoadName) (grants : List Grant) (slot : ℕ) (tile : TileState) : Type 0 where
+-- a tile follows the grants, at the beginning of a slot
+pub record FollowsOn (world : World) (loads : List LoadName) (grants : List Grant) (slot number : ℕ) (tile : TileState) : Type 0 where
   pub at : tile.at ≡ slot
+  pub number_is : tile.number ≡ number
   pub made : IsMadeFor world loads tile
+  pub fits : IsFit world grants tile
   pub holds : HoldsGranted world grants (view_at world grants slot tile) tile
 
 -- and so does the machine
-abbrev pub Follows : World → List LoadName → List Grant → ℕ → Machine → Type 0
-Follows world loads grants slot machine = (k : ℕ) (tile : TileState) → slice_get machine.tiles k ≡ Some tile → FollowsOn world loads grants slot tile
+pub record Follows (world : World) (loads : List LoadName) (grants : List Grant) (slot : ℕ) (machine : Machine TileState WordAndCredits) : Type 0 where
+  pub tiles : (number : ℕ) → number < world.platform.tiles → FollowsOn world loads grants slot number (machine.tile number)
+  pub links : LinksCarry world grants slot machine.carried
 
--- before its first slot
-opening_log : (world : World) (grant : Option Grant) (part : Part) → (run_by world part grant (0 * world.platform.slot_cycles)).log ≡ new_log part.trace
-opening_log world None part = refl
-opening_log world (Some grant) part = ap (λ (s : PartState). s.log) (run_before world part grant (0 * world.platform.slot_cycles) (omega arith))
+-- what the loads, grants and number of a tile say
+pub site_in : (world : World) (loads : List LoadName) (grants : List Grant) (slot number : ℕ) (tile : TileState) → IsSettled world loads grants → FollowsOn world loads grants slot number tile → IsSite world loads tile.loads grants tile.number
+site_in world loads grants slot number tile so follows = site_of world loads grants tile so.sound so.apart so.of_loads follows.made
 
-first_log : (world : World) (grant : Option Grant) (part : Part) (there : Option Part) → there ≡ Some part → (view_by world grant 0 there).log ≡ new_log part.trace
-first_log world grant part there is = ap (λ (p : Option Part). (view_by world grant 0 p).log) is ∙ opening_log world grant part
+-- once the grants of its slot have ended and begun, it is still at the slot
+pub ready_slot : (world : World) (loads : List LoadName) (grants : List Grant) (slot number : ℕ) (tile : TileState) → IsSettled world loads grants → FollowsOn world loads grants slot number tile → (with_grants world grants tile).at ≡ slot
+ready_slot world loads grants slot number tile so follows = (granted_alike world loads grants tile so.sound.catalog follows.made).at ∙ follows.at
 
-fresh_follows : (world : World) (loads : List LoadName) (grants : List Grant) (number : ℕ) → IsSettled world loads grants → number < world.platform.tiles → FollowsOn world loads grants 0 (fresh_tile world loads number)
-fresh_follows world loads grants number so low =
-    let tile = fresh_tile world loads number in
+-- and its tables hold the entries of those that stand at the next
+pub ready_sound : (world : World) (loads : List LoadName) (grants : List Grant) (slot number : ℕ) (tile : TileState) → IsSettled world loads grants → FollowsOn world loads grants slot number tile
+    → AreSound world grants (slot + 1) number (with_grants world grants tile).tables
+ready_sound world loads grants slot number tile so follows =
+    let rows = (with_grants world grants tile).tables in
+    let own : AreTabled world grants (tile.at + 1) tile.number rows = subst (AreTabled world grants (tile.at + 1) tile.number) (sym (granted_tables world loads grants tile so.sound.catalog follows.made)) (tables_go_on world grants tile.at tile.number tile.tables so.sound.catalog so.apart follows.fits.tables) in
     record {
-      at = fresh_at world loads number;
-      made = fresh_made world loads number low;
-      holds = holds_first world loads grants number (view_at world grants 0 tile) so.sound low (λ place part there. first_log world (place_grant grants tile place) part (load_part world tile place) there);
+      sound = so.sound.catalog;
+      apart = so.apart;
+      tabled = subst (λ n. AreTabled world grants (slot + 1) n rows) follows.number_is (subst (λ u. AreTabled world grants (u + 1) tile.number rows) follows.at own);
     }
 
 -- what a tile holds goes by the views of its parts alone
@@ -92,69 +75,88 @@ granted_by world grants view other tile same held =
         turn = h.turn;
         installed = h.installed;
         inside = h.inside;
+        own = h.own;
         here = λ place part start is begins.
             let one = h.here place part start is begins in
             let seen = sym (same place part is) in
-            record { words = one.words ∙ ap (λ (s : PartState). words_of s) seen; bytes = one.bytes ∙ ap (λ (s : PartState). s.bytes) seen; ports = ap (λ (s : PartState). s.ports) (same place part is) ∙ one.ports; start_is = one.start_is };
+            record { words = one.words ∙ ap (λ (s : PartState). words_of s) seen; bytes = one.bytes ∙ ap (λ (s : PartState). s.bytes) seen; ports = one.ports ∙ ap (λ (s : PartState). s.ports) seen; start_is = one.start_is };
         logs = λ place part is.
             let one = h.logs place part is in
             record { inside = one.inside; is = one.is ∙ ap (λ (s : PartState). s.log) (sym (same place part is)) };
       };
     }
 
--- over a slot
-view_on : (world : World) (slot : ℕ) (grant : Option Grant) (part : Part) (there : Option Part) → there ≡ Some part → view_slot world slot grant there (view_by world grant slot there) ≡ view_by world grant (slot + 1) there
-view_on world slot grant part there is =
-    let P : Option Part → Type 0 = λ p. view_slot world slot grant p (view_by world grant slot p) ≡ view_by world grant (slot + 1) p in
-    subst P (sym is) (run_slot world slot grant part)
-
 -- what a place is told by: the grant of its load, and its part
+abbrev part_in : World → ℕ → List LoadName → ℕ → Option Part
+part_in world number loads place = option_and_then (λ load. part_on world number load.bundle) (slice_get loads place)
+
+abbrev view_in : World → List Grant → ℕ → ℕ → List LoadName → ℕ → PartState
+view_in world grants slot number loads place = view_by world slot number (option_and_then (λ load. grant_of grants load.label) (slice_get loads place)) (part_in world number loads place)
+
+parts_same : (world : World) (t after : TileState) (place : ℕ) → after.number ≡ t.number → after.loads ≡ t.loads → load_part world after place ≡ load_part world t place
+parts_same world t after place number loads =
+    ap (λ (ls : List LoadName). part_in world after.number ls place) loads ∙ ap (λ n. part_in world n t.loads place) number
+
 places_same : (world : World) (grants : List Grant) (slot : ℕ) (t after : TileState) (place : ℕ) → after.number ≡ t.number → after.loads ≡ t.loads → view_at world grants slot after place ≡ view_at world grants slot t place
 places_same world grants slot t after place number loads =
     ap (λ (ls : List LoadName). view_in world grants slot after.number ls place) loads
     ∙ ap (λ n. view_in world grants slot n t.loads place) number
 
-pub tile_follows : (world : World) (loads : List LoadName) (grants : List Grant) (slot : ℕ) (tile : TileState) → IsSettled world loads grants → FollowsOn world loads grants slot tile → FollowsOn world loads grants (slot + 1) (tile_slot world grants tile)
-tile_follows world loads grants slot tile so follows =
-    let after = tile_slot world grants tile in
-    let done = slot_holds world loads grants (view_at world grants slot tile) tile so.sound so.apart so.of_loads follows.made follows.holds in
-    let number = slot_number world loads grants tile so.sound follows.made in
-    let same = slot_loads world loads grants tile so.sound follows.made in
+-- the grant of the load at a place is of the bundle of the part there
+pub grant_on : (world : World) (loads : List LoadName) (grants : List Grant) (tile : TileState) (place : ℕ) (part : Part) (grant : Grant) → IsSite world loads tile.loads grants tile.number → load_part world tile place ≡ Some part → place_grant grants tile place ≡ Some grant → IsGrantOn world grants tile.number part grant
+grant_on world loads grants tile place part grant site is granted =
+    option_and_then_some (λ (load : LoadName). part_on world tile.number load.bundle) (slice_get tile.loads place) part is (λ load there on.
+    let of_load : grant_of grants load.label ≡ Some grant = sym (ap (option_and_then (λ (l : LoadName). grant_of grants l.label)) there) ∙ granted in
+    let found = found_place (λ (g : Grant). same_label g.label load.label) grants grant of_load in
+    let bundle = bundle_is world loads tile.loads grants tile.number place found.0 load grant site there found.1 (same_so grant.label load.label found.2) in
+    record { index = found.0; granted = found.1; on = ap (part_on world tile.number) bundle ∙ on })
+
+-- what the network does on the tile, by its own slot and number
+own_exchange : (world : World) (loads : List LoadName) (grants : List Grant) (tile : TileState) (carried : Link → WordAndCredits) → IsSettled world loads grants → FollowsOn world loads grants tile.at tile.number tile
+    → IsExchange world grants tile.at tile.number carried (slot_exchange world grants (inputs_on world carried tile.number) tile)
+own_exchange world loads grants tile carried so follows =
+    let rows = (with_grants world grants tile).tables in
+    let inputs = inputs_on world carried tile.number in
+    let sound = ready_sound world loads grants tile.at tile.number tile so follows in
     record {
-      at = slot_at world grants tile ∙ ap (λ u. u + 1) follows.at;
-      made = slot_made world loads grants tile so.sound.catalog follows.made;
-      holds = granted_by world grants (views_slot world grants tile (view_at world grants slot tile)) (view_at world grants (slot + 1) after) after (λ place part there.
-          let was : load_part world tile place ≡ Some part = sym (parts_same world tile after place number same) ∙ there in
-          let at : view_slot world tile.at (place_grant grants tile place) (load_part world tile place) (view_at world grants slot tile place) ≡ view_slot world slot (place_grant grants tile place) (load_part world tile place) (view_at world grants slot tile place) =
-          ap (λ u. view_slot world u (place_grant grants tile place) (load_part world tile place) (view_at world grants slot tile place)) follows.at in
-          places_same world grants (slot + 1) tile after place number same
-          ∙ sym (view_on world slot (place_grant grants tile place) part (load_part world tile place) was)
-          ∙ sym at) done;
+      rows = rows;
+      injects = injects_are_read world grants (tile.at + 1) tile.number rows tile.at sound;
+      deliveries = deliveries_are_read world grants (tile.at + 1) tile.number rows tile.at inputs idle sound;
+      sends = ap (λ rs. injecting rs tile.at) (sym (granted_tables world loads grants tile so.sound.catalog follows.made));
+      receives = ap (λ rs. (routed rs tile.at inputs idle).deliver) (sym (granted_tables world loads grants tile so.sound.catalog follows.made));
     }
 
--- over a slot of the machine
-pub follows_next : (world : World) (loads : List LoadName) (grants : List Grant) (slot : ℕ) (machine : Machine) → IsSettled world loads grants → Follows world loads grants slot machine → Follows world loads grants (slot + 1) (machine_slot world grants machine)
-follows_next world loads grants slot machine so follows = λ k tile there.
-    let from = mapped_place (tile_slot world grants) machine.tiles k tile there in
-    subst (FollowsOn world loads grants (slot + 1)) from.2 (tile_follows world loads grants slot from.0 so (follows k from.0 from.1))
+-- over its slot
+own_next : (world : World) (loads : List LoadName) (grants : List Grant) (tile : TileState) (carried : Link → WordAndCredits) → IsSettled world loads grants → FollowsOn world loads grants tile.at tile.number tile → LinksCarry world grants tile.at carried
+    → FollowsOn world loads grants (tile.at + 1) tile.number (tile_slot world grants (inputs_on world carried tile.number) tile)
+own_next world loads grants tile carried so follows links =
+    let inputs = inputs_on world carried tile.number in
+    let after = tile_slot world grants inputs tile in
+    let view = view_at world grants tile.at tile in
+    let exchange = slot_exchange world grants inputs tile in
+    let gone = slot_goes_on world loads grants inputs tile so.sound so.apart so.of_loads follows.made follows.fits in
+    let done = slot_holds world loads grants inputs view tile so.sound so.apart so.of_loads follows.made follows.holds in
+    let site = site_in world loads grants tile.at tile.number tile so follows in
+    let network = own_exchange world loads grants tile carried so follows in
+    record {
+      at = gone.at;
+      number_is = gone.number_same;
+      made = gone.made;
+      fits = gone.fits;
+      holds = granted_by world grants (views_slot world grants inputs tile view) (view_at world grants (tile.at + 1) after) after (λ place part there.
+          let was : load_part world tile place ≡ Some part = sym (parts_same world tile after place gone.number_same gone.loads_same) ∙ there in
+          let grant = place_grant grants tile place in
+          let P : Option Part → Type 0 = λ p. view_by world (tile.at + 1) tile.number grant p ≡ view_slot world tile.at exchange grant p (view_by world tile.at tile.number grant p) in
+          places_same world grants (tile.at + 1) tile after place gone.number_same gone.loads_same
+          ∙ subst P (sym was) (sym (view_next world grants tile.at so.apart so.sound.catalog carried links tile.number part grant exchange network (λ g is. grant_on world loads grants tile place part g site was is)))) done;
+    }
 
--- the numbers of a range
-range_item : (from n k x : ℕ) → slice_get (range_with_len from n) k ≡ Some x → x < from + n
-range_item from zero k x there = absurd (none-some x there)
-range_item from (suc n) zero x there = let same : from ≡ x = same_Some from x there in omega arith
-range_item from (suc n) (suc k) x there = let low = range_item (from + 1) n k x there in omega arith
-
-pub follows_first : (world : World) (loads : List LoadName) (grants : List Grant) → IsSettled world loads grants → Follows world loads grants 0 (fresh_machine world loads)
-follows_first world loads grants so = λ k tile there.
-    let from = mapped_place (fresh_tile world loads) (range_with_len 0 world.platform.tiles) k tile there in
-    let low = range_item 0 world.platform.tiles k from.0 from.1 in
-    subst (FollowsOn world loads grants 0) from.2 (fresh_follows world loads grants from.0 so (omega arith))
-
--- THE LAW: in every slot in which all tiles are in step the machine follows its grants
-pub lockstep_follows : (world : World) (loads : List LoadName) (grants : List Grant) (slots : ℕ) → IsSettled world loads grants → Follows world loads grants slots (lockstep world loads grants slots)
-unfolding lockstep after_steps
-lockstep_follows world loads grants zero so = follows_first world loads grants so
-lockstep_follows world loads grants (suc n) so =
-    let more : n + 1 ≡ suc n = omega arith in
-    subst (λ (u : ℕ). Follows world loads grants u (machine_slot world grants (lockstep world loads grants n))) more
-    (follows_next world loads grants n (lockstep world loads grants n) so (lockstep_follows world loads grants n so))
+pub tile_next : (world : World) (loads : List LoadName) (grants : List Grant) (slot number : ℕ) (tile : TileState) (carried : Link → WordAndCredits) → IsSettled world loads grants → FollowsOn world loads grants slot number tile → LinksCarry world grants slot carried
+    → FollowsOn world loads grants (slot + 1) number (tile_slot world grants (inputs_on world carried number) tile)
+tile_next world loads grants slot number tile carried so follows links =
+    let at_own = subst (λ u. FollowsOn world loads grants u number tile) (sym follows.at) follows in
+    let own = subst (λ n. FollowsOn world loads grants tile.at n tile) (sym follows.number_is) at_own in
+    let links_own = subst (λ u. LinksCarry world grants u carried) (sym follows.at) links in
+    let next = own_next world loads grants tile carried so own links_own in
+    let numbered = subst (λ n. FollowsOn world loads grants (tile.at + 1) n (tile_slot world grants (inputs_on world carried n) tile)) follows.number_is next in
+    subst (λ u. FollowsOn world loads grants (u + 1) number (tile_slot world grants (inputs_on world carried number) tile)) follows.at numbered

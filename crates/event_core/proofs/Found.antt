@@ -1,5 +1,5 @@
 -- What a tile that follows the grants keeps of one of them.
-use Rattle.std.proofs.Common.{◌≡◌, ℕ, ◌*◌, Bool, true, false, cond, List, slice_get, Option, Some, None, option_map, option_and_then, refl, ap, ◌∙◌}
+use Rattle.std.proofs.Common.{◌≡◌, ℕ, ◌*◌, Bool, true, false, cond, List, slice_get, Some, None, option_map, option_and_then, refl, ap, ap₂, ◌∙◌}
 use Rattle.bundle_model.specs.declared.bundle.Part.{Part}
 use Rattle.bundle_model.specs.declared.world.World.{World}
 use Rattle.bundle_model.specs.declared.world.LoadName.{LoadName}
@@ -11,15 +11,13 @@ use Rattle.tile_core.specs.Tile.{TileState, load_place, load_part, log_of, state
 use Rattle.tile_core.specs.Slot.{grant_of}
 use Rattle.tile_core.specs.Fit.{granted_cycle, granted_from}
 use Rattle.tile_core.specs.Views.{place_grant}
-use Rattle.tile_core.proofs.Laws.{IsSite, site_of, own_grant, if_stands, standing_is, place_is, grant_place, no_grant_place, log_found, state_found, state_none}
-use Rattle.event_core.proofs.Runs.{run_by}
-use Rattle.event_core.proofs.Follows.{IsSettled, view_by, view_at, FollowsOn}
+use Rattle.tile_core.proofs.Laws.{own_grant, if_stands, standing_is, place_is, grant_place, no_grant_place, log_found, state_found, state_none}
+use Rattle.event_core.proofs.Settled.{IsSettled}
+use Rattle.event_core.proofs.Views.{view_by, view_at}
+use Rattle.event_core.proofs.Follows.{FollowsOn, site_in}
 
-abbrev pub load_of : Grant → LoadName
+abbrev load_of : Grant → LoadName
 load_of grant = record { label = grant.label; bundle = grant.bundle }
-
-site_in : (world : World) (loads : List LoadName) (grants : List Grant) (slot : ℕ) (tile : TileState) → IsSettled world loads grants → FollowsOn world loads grants slot tile → IsSite world loads tile.loads grants tile.number
-site_in world loads grants slot tile so follows = site_of world loads grants tile so.sound so.apart so.of_loads follows.made
 
 -- the place of a grant's load on a tile, where its bundle has a part there
 record IsThere (world : World) (grants : List Grant) (slot : ℕ) (grant : Grant) (part : Part) (tile : TileState) : Type 0 where
@@ -34,9 +32,9 @@ start_if : (world : World) (grant : Grant) (stands : Bool) → option_map (λ (g
 start_if world grant true = refl
 start_if world grant false = refl
 
-there : (world : World) (loads : List LoadName) (grants : List Grant) (at slot : ℕ) (grant : Grant) (part : Part) (tile : TileState) → IsSettled world loads grants → slice_get grants at ≡ Some grant → FollowsOn world loads grants slot tile → part_on world tile.number grant.bundle ≡ Some part → IsThere world grants slot grant part tile
-there world loads grants at slot grant part tile so at_grant follows on =
-    let site = site_in world loads grants slot tile so follows in
+there : (world : World) (loads : List LoadName) (grants : List Grant) (at slot number : ℕ) (grant : Grant) (part : Part) (tile : TileState) → IsSettled world loads grants → slice_get grants at ≡ Some grant → FollowsOn world loads grants slot number tile → part_on world tile.number grant.bundle ≡ Some part → IsThere world grants slot grant part tile
+there world loads grants at slot number grant part tile so at_grant follows on =
+    let site = site_in world loads grants slot number tile so follows in
     let place = grant_place world loads grants tile at grant part site at_grant on in
     let own = own_grant world loads tile.loads grants tile.number at grant grant.label site at_grant refl in
     record {
@@ -53,17 +51,16 @@ there world loads grants at slot grant part tile so at_grant follows on =
 
 -- what the tile keeps of a grant with a part there
 pub record IsFound (world : World) (grant : Grant) (slot : ℕ) (part : Part) (tile : TileState) : Type 0 where
-  pub log : log_of tile grant.label ≡ Some (run_by world part (Some grant) (slot * world.platform.slot_cycles)).log
-  pub present : stands_at slot grant ≡ true → state_of world tile grant.label ≡ Some (run_by world part (Some grant) (slot * world.platform.slot_cycles))
+  pub log : log_of tile grant.label ≡ Some (view_by world slot tile.number (Some grant) (Some part)).log
+  pub present : stands_at slot grant ≡ true → state_of world tile grant.label ≡ Some (view_by world slot tile.number (Some grant) (Some part))
   pub absent : stands_at slot grant ≡ false → state_of world tile grant.label ≡ None
 
-pub tile_found : (world : World) (loads : List LoadName) (grants : List Grant) (at slot : ℕ) (grant : Grant) (part : Part) (tile : TileState) → IsSettled world loads grants → slice_get grants at ≡ Some grant → FollowsOn world loads grants slot tile → part_on world tile.number grant.bundle ≡ Some part → IsFound world grant slot part tile
-tile_found world loads grants at slot grant part tile so at_grant follows on =
-    let is = there world loads grants at slot grant part tile so at_grant follows on in
+pub tile_found : (world : World) (loads : List LoadName) (grants : List Grant) (at slot number : ℕ) (grant : Grant) (part : Part) (tile : TileState) → IsSettled world loads grants → slice_get grants at ≡ Some grant → FollowsOn world loads grants slot number tile → part_on world tile.number grant.bundle ≡ Some part → IsFound world grant slot part tile
+tile_found world loads grants at slot number grant part tile so at_grant follows on =
+    let is = there world loads grants at slot number grant part tile so at_grant follows on in
     let start = grant.start * world.platform.slot_cycles in
     let view = view_at world grants slot tile in
-    let seen : view is.place ≡ run_by world part (Some grant) (slot * world.platform.slot_cycles) =
-    ap (λ (g : Option Grant). view_by world g slot (load_part world tile is.place)) is.grant_is ∙ ap (view_by world (Some grant) slot) is.part_is in
+    let seen : view is.place ≡ view_by world slot tile.number (Some grant) (Some part) = ap₂ (view_by world slot tile.number) is.grant_is is.part_is in
     record {
       log = log_found world grants view tile is.place grant.label part follows.holds is.placed is.part_is ∙ ap (λ (s : PartState). Some s.log) seen;
       present = λ stands.
@@ -74,6 +71,6 @@ tile_found world loads grants at slot grant part tile so at_grant follows on =
     }
 
 -- a grant without a part on the tile has no place there
-pub no_site : (world : World) (loads : List LoadName) (grants : List Grant) (at slot : ℕ) (grant : Grant) (tile : TileState) → IsSettled world loads grants → slice_get grants at ≡ Some grant → FollowsOn world loads grants slot tile → part_on world tile.number grant.bundle ≡ None → load_place tile grant.label ≡ None
-no_site world loads grants at slot grant tile so at_grant follows none =
-    no_grant_place world loads grants tile at grant (site_in world loads grants slot tile so follows) at_grant none
+pub no_site : (world : World) (loads : List LoadName) (grants : List Grant) (at slot number : ℕ) (grant : Grant) (tile : TileState) → IsSettled world loads grants → slice_get grants at ≡ Some grant → FollowsOn world loads grants slot number tile → part_on world tile.number grant.bundle ≡ None → load_place tile grant.label ≡ None
+no_site world loads grants at slot number grant tile so at_grant follows none =
+    no_grant_place world loads grants tile at grant (site_in world loads grants slot number tile so follows) at_grant none

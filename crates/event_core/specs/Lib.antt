@@ -1,1 +1,5 @@
 pub mod Stands
+pub mod Links
+pub mod Core
+pub mod Worlds
+pub mod inner

@@ -10,7 +10,7 @@ use Rattle.trace_log.specs.Log.{Log, new_log}
 use Rattle.part_model.specs.Part.{PartState}
 use Rattle.alone_model.specs.App.{AppState, alone_at}
 use Rattle.tile_core.specs.Tile.{TileState, log_of, state_of}
-use Rattle.tile_core.specs.Lockstep.{lockstep}
+use Rattle.tile_core.specs.Lockstep.{tiles_at}
 
 -- the application of a grant, alone on the empty platform from its start up to the beginning of a slot
 abbrev pub alone_app : World → Grant → ℕ → Option AppState
@@ -29,20 +29,18 @@ pub record IsAbsent (world : World) (grant : Grant) (tile : TileState) (log : Op
 -- The grant stands on a tile as it would alone. Before its first slot, and where it ends at its start,
 -- nothing of it is installed and its log is empty and live. From then on, while it is open and in the
 -- slots up to its end, its words (wherever they are: in the register file, in its frame, or some in each),
--- its region and its log are those of the application alone at that slot.
+-- its region, its ports and its log are those of the application alone at that slot.
 -- After its end nothing of it is installed, and its log is that of the application alone at its end.
 pub record Stands (world : World) (grant : Grant) (tile : TileState) : Type 0 where
   pub before : (tile.at ≤ grant.start) ⊎ (grant.end ≡ Some grant.start) → IsAbsent world grant tile (option_map (λ part. new_log part.trace) (part_on world tile.number grant.bundle))
   pub during : grant.start < tile.at → IsTrue (lasts_to tile.at grant.end) → state_of world tile grant.label ≡ alone_part world grant tile.at tile.number
   pub after : (end : ℕ) → grant.end ≡ Some end → grant.start < end → end < tile.at → IsAbsent world grant tile (option_map (λ state. state.log) (alone_part world grant end tile.number))
 
--- Every grant stands on every tile, in every slot in which all tiles are in step. The platform has one tile:
--- between tiles there are no links yet.
+-- Every grant stands on every tile, in every slot in which all tiles are in step.
 abbrev pub GrantsStand : Type 0
 GrantsStand =
     (world : World) (loads : List LoadName) (grants : List Grant) (slot : ℕ) → IsSoundWorld world loads → IsApart world grants → AreOfLoads loads grants
-    → world.platform.tiles ≡ 1
-    → All (λ tile. All (λ grant. Stands world grant tile) grants) (lockstep world loads grants slot).tiles
+    → All (λ tile. All (λ grant. Stands world grant tile) grants) (tiles_at world loads grants slot)
 
 -- the slot up to which a grant's application is followed in a run: its end or the run's, and no slot
 -- before its start
@@ -54,5 +52,4 @@ stop_slot budget grant = max grant.start (option_map_or (λ end. min end budget)
 abbrev pub LogsAreAlone : Type 0
 LogsAreAlone =
     (world : World) (loads : List LoadName) (grants : List Grant) (budget : ℕ) → IsSoundWorld world loads → IsApart world grants → AreOfLoads loads grants
-    → world.platform.tiles ≡ 1
-    → All (λ tile. All (λ grant. log_of tile grant.label ≡ option_map (λ state. state.log) (alone_part world grant (stop_slot budget grant) tile.number)) grants) (lockstep world loads grants budget).tiles
+    → All (λ tile. All (λ grant. log_of tile grant.label ≡ option_map (λ state. state.log) (alone_part world grant (stop_slot budget grant) tile.number)) grants) (tiles_at world loads grants budget)

@@ -1,5 +1,5 @@
 -- At the end of a run the tiles hold of each granted application what it has alone.
-use Rattle.std.proofs.Common.{◌≡◌, ℕ, ◌+◌, ◌<◌, ◌≤◌, max, Bool, true, false, cond, ◌==◌, nat_eq, List, [], ◌∷◌, ◌++◌, length, map, get_or, fold, find, sum_by, slice_get, option_map, Option, Some, None, Result, Ok, Err, All, IfOk, IsSome, zero, suc, length-append, refl, sym, ap, subst, ◌∙◌, arith}
+use Rattle.std.proofs.Common.{◌≡◌, ℕ, ◌<◌, ◌≤◌, max, Bool, true, false, cond, ◌==◌, nat_eq, List, [], ◌∷◌, ◌++◌, length, map, get_or, fold, find, sum_by, slice_get, option_map, Option, Some, None, Result, Ok, Err, All, IfOk, IsSome, zero, suc, length-append, refl, sym, ap, subst, ◌∙◌, arith}
 use Rattle.std.specs.List.{flat_map, range_with_len, IsDistinct}
 use Rattle.std.specs.Option.{option_map_or, option_and_then}
 use Rattle.std.proofs.lemmas.List.Elements.{All-nil, All-head, All-tail, All-cons, All-from_recursion}
@@ -24,7 +24,7 @@ use Rattle.alone_model.specs.Trace.{part_trace}
 use Rattle.alone_model.proofs.Laws.{alone_parts, alone_fits}
 use Rattle.tile_core.specs.declared.station.Station.{Station}
 use Rattle.tile_core.specs.Tile.{TileState, log_of}
-use Rattle.tile_core.specs.Lockstep.{lockstep}
+use Rattle.tile_core.specs.Lockstep.{tiles_at}
 use Rattle.vep_manager.specs.declared.setup.Setup.{Setup}
 use Rattle.vep_manager.specs.Setup.{IsSound}
 use Rattle.vep_manager.specs.History.{grants_of}
@@ -274,17 +274,17 @@ holds_for setup end tiles grant bundle sound logs known =
     }
 
 pub holds_alone : (setup : Setup) (end : RunEnd) → IsSound setup → IsLegal setup end.history → EndsInStep setup end
-    → setup.world.platform.tiles ≡ 1 → All (HoldsAlone setup end.stations) (grants_of setup end.history)
-holds_alone setup end sound legal in_step one =
+    → All (HoldsAlone setup end.stations) (grants_of setup end.history)
+holds_alone setup end sound legal in_step =
     let grants = grants_of setup end.history in
     let apart = legal_apart setup sound end.history legal in
     let of_loads = grants_of_loads setup sound end.history legal in
     λ k d inside.
     let (bundle, known) = some_of (bundle_at setup.world (get_or grants k d).bundle) (apart.known k d inside) in
-    holds_for setup end (lockstep setup.world setup.loads grants setup.budget).tiles (get_or grants k d) bundle
+    holds_for setup end (tiles_at setup.world setup.loads grants setup.budget) (get_or grants k d) bundle
     sound.catalog (record {
       in_step = in_step;
       numbered = tiles_numbered setup.world setup.loads grants setup.budget (sound_world setup sound) apart of_loads;
       alone = λ m e within. logs_are_alone setup.world setup.loads grants setup.budget (sound_world setup sound) apart
-          of_loads one m e within k d inside;
+          of_loads m e within k d inside;
     }) known

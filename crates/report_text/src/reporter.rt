@@ -99,8 +99,8 @@ impl Reporter {
 
     /// Writes the report of a run: the history, and each granted application's trace. The reporter was
     /// made for this setup, the history is legal, and the stations hold the tiles as they are at the end
-    /// of the run. `state` is false for now, and the platform has one tile. Fails only where the sink's count of faults rose, and then
-    /// a front of the text was written. Takes no memory.
+    /// of the run. `state` is false for now. Fails only where the sink's count of faults rose, and then a
+    /// front of the text was written. Takes no memory.
     pub fn write<S: Sink>(
         &mut self,
         setup: &Setup,
@@ -113,7 +113,6 @@ impl Reporter {
         requires legal { IsLegal setup.now end.now.history }
         requires in_step { EndsInStep setup.now end.now }
         requires no_state { state ≡ false }
-        requires one_tile { setup.now.world.platform.tiles ≡ 1 }
         ensures counted { S.faults sink.old ≤ S.faults sink.new }
         ensures written { (text : List ℕ) × IsReport setup.now end.now.history text × WritesText S.written S.faults sink.old sink.new text result }
         ensures room { self.new ≡ self.old }

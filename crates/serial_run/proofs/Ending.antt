@@ -2,7 +2,7 @@
 use Rattle.std.proofs.Common.{◌≡◌, refl, ◌∙◌, subst, arith}
 use Rattle.bundle_model.specs.declared.world.Schedule.{Schedule}
 use Rattle.bundle_model.specs.Grants.{IsApart}
-use Rattle.tile_core.specs.Lockstep.{Machine, fresh_machine}
+use Rattle.serial_run.specs.Rig.{RigState, IsFresh}
 use Rattle.vep_manager.specs.declared.setup.Setup.{Setup}
 use Rattle.vep_manager.specs.Manager.{ManagerState}
 use Rattle.vep_manager.specs.Setup.{IsSound}
@@ -19,8 +19,8 @@ pub record IsScheduled (setup : Setup) (state : ManagerState) (schedule : Schedu
   pub grants : schedule.grants.items ≡ grants_of state.setup state.history
   pub horizon : schedule.horizon ≡ horizon_of state.setup state.history
 
-of_state : (state : ManagerState) (schedule : Schedule) (rig : Machine) → IsSound state.setup
-    → IsScheduled state.setup state schedule → rig ≡ fresh_machine state.setup.world state.setup.loads
+of_state : (state : ManagerState) (schedule : Schedule) (rig : RigState) → IsSound state.setup
+    → IsScheduled state.setup state schedule → IsFresh state.setup.world state.setup.loads rig
     → CanFinish state.setup.world schedule state.setup.budget rig
 of_state state schedule rig sound made fresh =
     let reached : schedule.horizon ≡ state.setup.budget =
@@ -35,8 +35,8 @@ of_state state schedule rig sound made fresh =
       bounded = rw reached sound.budget;
     }
 
-pub can_finish : (setup : Setup) (state : ManagerState) (schedule : Schedule) (rig : Machine) → IsSound setup
-    → IsScheduled setup state schedule → rig ≡ fresh_machine setup.world setup.loads
+pub can_finish : (setup : Setup) (state : ManagerState) (schedule : Schedule) (rig : RigState) → IsSound setup
+    → IsScheduled setup state schedule → IsFresh setup.world setup.loads rig
     → CanFinish setup.world schedule setup.budget rig
 can_finish setup state schedule rig sound made fresh =
     let Can = λ (s : Setup). CanFinish s.world schedule s.budget rig in

@@ -1,5 +1,9 @@
+pub mod Each
 pub mod Ending
 pub mod Fresh
 pub mod Ranges
+pub mod Sources
+pub mod Stepping
+pub mod Steps
 pub mod Turns
 pub mod Underway

@@ -1,9 +1,8 @@
 -- A history from one turn to the next, and from one round to the next.
-use Rattle.std.proofs.Common.{◌≡◌, ◌≢◌, ℕ, ◌+◌, ◌-◌, ◌<◌, ◌≤◌, inl, inr, ◌↔◌, true, cond, ◌==◌, min, List, [], ◌∷◌, ◌++◌, length, get_or, slice_get, Option, Some, None, option_map, IsNone, IsTrue, All, refl, sym, subst, ap, ◌∙◌, arith, append-nil}
+use Rattle.std.proofs.Common.{◌≡◌, ℕ, ◌+◌, ◌-◌, ◌<◌, ◌≤◌, inl, inr, ◌↔◌, cond, ◌==◌, List, [], ◌∷◌, ◌++◌, length, get_or, slice_get, Option, Some, None, option_map, IsNone, IsTrue, All, refl, sym, subst, ap, ◌∙◌, arith, append-nil}
 use Rattle.std.specs.List.{sum_by}
 use Rattle.std.specs.Option.{option_map_or, option_to_list}
 use Rattle.std.proofs.lemmas.Bool.{cases_lt, cases_order, le-leb, leb-true, eq-eqb, ne_eqb, true≢false}
-use Rattle.std.proofs.lemmas.List.{length-append}
 use Rattle.std.proofs.lemmas.List.Elements.{All-nil, All-push, All-weaker}
 use Rattle.std.proofs.lemmas.List.Sums.{sum_by_push, get_or-le-sum_by}
 use Rattle.std.proofs.lemmas.List.Quantifiers.{all_pairs_push}

@@ -1,2 +1,3 @@
+pub mod Rig
 pub mod Run
 pub mod inner

@@ -1,4 +1,4 @@
 -- Definitions that only clauses of private functions cite.
-pub mod Stations
+pub mod Slots
 pub mod Rounds
 pub mod Sample

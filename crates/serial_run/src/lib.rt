@@ -5,10 +5,12 @@
 
 /// What a run ends with.
 mod end;
-/// The tiles of a platform, slot by slot.
+/// The tiles of a platform and its links, slot by slot.
 mod rig;
 /// A run of all sessions.
 mod serial;
+/// The links of a platform between two slots.
+mod wires;
 
 /// Runs followed by hand.
 #[cfg(test)]

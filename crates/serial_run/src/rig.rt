@@ -1,87 +1,160 @@
-//! The tiles of a platform, slot by slot.
+//! The tiles of a platform and its links, slot by slot.
 
-ghost use Rattle.std.specs.Prelude.{◌≡◌, map, All, IfOk};
+ghost use Rattle.std.specs.Prelude.{◌≡◌, map, length, All, IfOk};
+ghost use Rattle.std.specs.List.{range_with_len};
 ghost use Rattle.bundle_model.specs.World.{IsSoundWorld};
 ghost use Rattle.tile_core.specs.Fit.{IsReady, IsUnderway};
-ghost use Rattle.tile_core.specs.Lockstep.{fresh_machine, machine_slot};
-ghost use Rattle.serial_run.specs.Run.{CanFinish, FinishesInStep};
-ghost use Rattle.serial_run.specs.inner.Stations.{station_slot, StaysUnderway};
+ghost use Rattle.tile_core.specs.Tile.{fresh_tile};
+ghost use Rattle.serial_run.specs.Rig.{IsJoined, IsFresh};
+ghost use Rattle.serial_run.specs.Run.{tiles_of, CanFinish, FinishesInStep};
+ghost use Rattle.serial_run.specs.inner.Slots.{each_with, station_slot, station_sends, tiles_moved, links_moved, rig_slot, AreReady, AreUnderway};
 
+use crate::wires::{all_sources, carry_all, idle_links, inputs, no_outputs};
 use bundle_model::{LoadName, Schedule, World};
 use soc_base::{Flit, NoMemory};
 use std::alloc::Global;
 use std::marker::Model;
 use tile_core::{Station, Tile};
 
-// The idle flit.
-const IDLE: Flit = Flit {
-    word: None,
-    credits: 0,
-};
-
-/// All tiles of a platform, in step.
+/// All tiles of a platform, in step, and the flit of each of its links.
 #[derive(Drop)]
 pub struct Rig {
     stations: Vec<Station>,
+    // For each tile and input the place of the link that enters it, so that no slot searches for it.
+    sources: Vec<[Option<u8>; 7]>,
+    flits: Vec<Flit>,
+    // What each tile put on its outputs: no link moves before all tiles have.
+    sent: Vec<[Flit; 7]>,
 }
 
 impl Model for Rig {
     ghost use Rattle.std.specs.Prelude.{map};
-    ghost use Rattle.tile_core.specs.Lockstep.{Machine};
+    ghost use Rattle.serial_run.specs.Rig.{RigState};
 
-    ghost Value = { Machine };
+    ghost Value = { RigState };
 
-    ghost view = { λ r. record { tiles = map (λ station. station.tile) r.stations.items } };
+    ghost view = { λ r. record { tiles = map (λ station. station.tile) r.stations.items; sources = r.sources.items; flits = r.flits.items; sent = r.sent.items } };
 }
 
-// Does the next slot of a tile. Its links bring nothing.
-fn step(station: &mut Station, world: &World, schedule: &Schedule)
+// Does the next slot of a tile, over the flits of the links, and answers what it puts on its outputs.
+fn step(
+    station: &mut Station,
+    sources: &[Option<u8>; 7],
+    flits: &[Flit],
+    world: &World,
+    schedule: &Schedule,
+) -> [Flit; 7]
     requires { IsReady world.now schedule.now station.old.tile }
-    ensures slot { station.new ≡ station_slot world.now schedule.now.grants.items station.old }
+    ensures slot { station.new ≡ station_slot world.now schedule.now.grants.items flits.now sources.now station.old }
+    ensures sends { result ≡ station_sends world.now schedule.now.grants.items flits.now sources.now station.old }
     ensures underway { IsUnderway world.now schedule.now station.new.tile }
 {
-    let _outputs = station.tile.slot(world, schedule, &[IDLE; 7]);
+    let inputs = inputs(flits, sources);
+    station.tile.slot(world, schedule, &inputs)
 }
 
-// Does the next slot of each tile.
-fn step_all(stations: &mut [Station], world: &World, schedule: &Schedule)
-    requires { All (λ station. IsReady world.now schedule.now station.tile) stations.old }
-    ensures slot { stations.new ≡ map (station_slot world.now schedule.now.grants.items) stations.old }
-    ensures underway { All (λ station. StaysUnderway world.now schedule.now station.tile) stations.old }
+// Does the next slot of each tile, and writes down what each puts on its outputs.
+fn step_all(
+    stations: &mut [Station],
+    sent: &mut [[Flit; 7]],
+    sources: &[[Option<u8>; 7]],
+    flits: &[Flit],
+    world: &World,
+    schedule: &Schedule,
+)
+    requires ready { AreReady world.now schedule.now stations.old }
+    requires sources { length sources.now ≡ length stations.old }
+    requires sent { length sent.old ≡ length stations.old }
+    ensures slot { stations.new ≡ each_with (station_slot world.now schedule.now.grants.items flits.now) sources.now stations.old }
+    ensures sends { sent.new ≡ each_with (station_sends world.now schedule.now.grants.items flits.now) sources.now stations.old }
+    ensures underway { AreUnderway world.now schedule.now stations.new }
 {
-    for station in stations.iter_mut() {
-        step(station, world, schedule);
+    for number in 0..stations.len() {
+        sent[number] = step(
+            &mut stations[number],
+            &sources[number],
+            flits,
+            world,
+            schedule,
+        );
     }
+}
+
+// Makes the tiles of a world before their first slot.
+fn fresh_stations(
+    alloc: Global,
+    world: &World,
+    loads: &[LoadName],
+) -> Result<Vec<Station>, NoMemory>
+    requires { IsSoundWorld world.now loads.now }
+    ensures { IfOk result (λ stations. tiles_of stations.items ≡ map (fresh_tile world.now loads.now) (range_with_len 0 world.now.platform.tiles)) }
+{
+    let mut stations = Vec::with_capacity(alloc, usize::from(world.platform.tiles))?;
+    for number in 0..world.platform.tiles {
+        let tile = Tile::new(alloc, world, loads, number)?;
+        stations.push_reserved(Station { tile });
+    }
+    Ok(stations)
 }
 
 impl Rig {
-    /// Makes the tiles of a world before their first slot, and takes all the memory that they need. The
-    /// loads are those of the run.
+    /// Makes the tiles of a world before their first slot and its links, all idle, and takes all the
+    /// memory that they need. The loads are those of the run.
     pub fn new(alloc: Global, world: &World, loads: &[LoadName]) -> Result<Rig, NoMemory>
         requires { IsSoundWorld world.now loads.now }
-        ensures { IfOk result (λ rig. rig ≡ fresh_machine world.now loads.now) }
+        ensures { IfOk result (IsFresh world.now loads.now) }
     {
-        let mut stations = Vec::with_capacity(alloc, usize::from(world.platform.tiles))?;
-        for number in 0..world.platform.tiles {
-            let tile = Tile::new(alloc, world, loads, number)?;
-            stations.push_reserved(Station { tile });
-        }
-        Ok(Rig { stations })
+        let tiles = world.platform.tiles;
+        let links = world.platform.links.as_slice();
+        Ok(Rig {
+            stations: fresh_stations(alloc, world, loads)?,
+            sources: all_sources(alloc, links, tiles)?,
+            flits: idle_links(alloc, links)?,
+            sent: no_outputs(alloc, tiles)?,
+        })
     }
 
-    // Does the next slot of each tile.
-    #[tactic(auto, using(crate::proofs::Underway::tiles_stepped))]
-    fn slot(&mut self, world: &World, schedule: &Schedule)
-        requires { All (IsReady world.now schedule.now) self.old.tiles }
-        ensures slot { self.new ≡ machine_slot world.now schedule.now.grants.items self.old }
-        ensures underway { All (StaysUnderway world.now schedule.now) self.old.tiles }
+    // Does the next slot of each tile. The links stay as they are.
+    fn move_tiles(&mut self, world: &World, schedule: &Schedule)
+        requires joined { IsJoined world.now self.old }
+        requires ready { All (IsReady world.now schedule.now) self.old.tiles }
+        ensures moved { self.new ≡ tiles_moved world.now schedule.now.grants.items self.old }
+        ensures underway { All (IsUnderway world.now schedule.now) self.new.tiles }
     {
-        step_all(self.stations.as_mut_slice(), world, schedule);
+        step_all(
+            self.stations.as_mut_slice(),
+            self.sent.as_mut_slice(),
+            self.sources.as_slice(),
+            self.flits.as_slice(),
+            world,
+            schedule,
+        );
+    }
+
+    // Gives each link what the tile that it leaves put on it.
+    fn move_links(&mut self, world: &World)
+        requires { length self.old.flits ≡ length world.now.platform.links }
+        ensures { self.new ≡ links_moved world.now self.old }
+    {
+        let links = world.platform.links.as_slice();
+        carry_all(self.flits.as_mut_slice(), links, self.sent.as_slice());
+    }
+
+    // Does the next slot of each tile, and then gives each link what was put on it: a flit is a slot on its
+    // way from one tile to the next.
+    fn slot(&mut self, world: &World, schedule: &Schedule)
+        requires joined { IsJoined world.now self.old }
+        requires ready { All (IsReady world.now schedule.now) self.old.tiles }
+        ensures slot { self.new ≡ rig_slot world.now schedule.now.grants.items self.old }
+        ensures underway { All (IsUnderway world.now schedule.now) self.new.tiles }
+    {
+        self.move_tiles(world, schedule);
+        self.move_links(world);
     }
 
     /// Brings all tiles, slot by slot, from before their first slot to the slot `until`, by a schedule
     /// whose horizon isn't below it. Takes no memory.
-    #[tactic(auto, using(soc_base::proofs::Laws::steps_none, soc_base::proofs::Laws::steps_more, crate::proofs::Underway::all_ready, crate::proofs::Underway::underway_more))]
+    #[tactic(auto, using(soc_base::proofs::Laws::steps_none, soc_base::proofs::Laws::steps_more))]
     pub fn finish(mut self, world: &World, schedule: &Schedule, until: u64) -> Vec<Station>
         requires { CanFinish world.now schedule.now until self }
         ensures { FinishesInStep world.now schedule.now.grants.items until self result.items }

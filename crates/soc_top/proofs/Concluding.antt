@@ -5,7 +5,6 @@ use Rattle.vep_manager.specs.declared.setup.Setup.{Setup}
 use Rattle.soc_top.specs.declared.request.AloneWords.{AloneWords}
 use Rattle.soc_top.specs.declared.request.RunWords.{RunWords}
 use Rattle.soc_top.specs.declared.inputs.Inputs.{Inputs}
-use Rattle.soc_top.specs.declared.fault.TopFault.{TopFault}
 use Rattle.soc_top.specs.declared.fault.TopFault.TheVariants.{NoMemory}
 use Rattle.soc_top.specs.declared.ending.Ending.{Ending}
 use Rattle.soc_top.specs.declared.ending.Ending.TheVariants.{Done, Unwritten, Refused}
@@ -14,6 +13,7 @@ use Rattle.soc_top.specs.Wants.Want.{PlatformWant}
 use Rattle.soc_top.specs.Order.{Order, AreRead, Cause}
 use Rattle.soc_top.specs.Answers.{Texts, Ends}
 use Rattle.soc_top.specs.Alone.{bundle_order, alone_order, alone_inputs, IsAloneText, AloneTexts}
+use Rattle.vep_manager.specs.Legal.{IsRoundRobin}
 use Rattle.soc_top.specs.Run.{run_order, inputs_of, GivesSetup, IsReportOf, RunTexts}
 use Rattle.soc_top.specs.inner.Ends.{Concludes}
 use Rattle.soc_top.proofs.Exchanges.{exchange_of}
@@ -44,9 +44,9 @@ alone_ended told read read_now old new before now request inputs ending gives co
 
 pub run_ended : (told : Option Held) (read read_now : ℕ) (old new : Option (List ℕ)) (before now : ℕ)
     (request : RunWords) (setup : Setup) (ending : Ending)
-    → GivesSetup told request setup → Concludes (IsReportOf setup) old before new now ending
-    → Ends (exchange_of told read read_now old new before now) (run_order request) (RunTexts request) ending
+    → GivesSetup told request setup → Concludes (IsReportOf IsRoundRobin setup) old before new now ending
+    → Ends (exchange_of told read read_now old new before now) (run_order request) (RunTexts IsRoundRobin request) ending
 run_ended told read read_now old new before now request setup ending gives concludes =
-    ended told read read_now old new before now (run_order request) (RunTexts request) (IsReportOf setup)
+    ended told read read_now old new before now (run_order request) (RunTexts IsRoundRobin request) (IsReportOf IsRoundRobin setup)
     (inputs_of setup) ending gives.0 (λ text is. (setup, refl, gives.1, is))
     (run_memory told read read_now request) concludes

@@ -1,5 +1,5 @@
 -- From how a request ends to what its status says.
-use Rattle.std.proofs.Common.{◌≡◌, ℕ, ◌⊎◌, inl, inr, List, [], Option, Some, None, refl, ap, subst}
+use Rattle.std.proofs.Common.{◌≡◌, ℕ, ◌⊎◌, inl, inr, List, [], Option, Some, refl, ap, subst}
 use Rattle.soc_io.specs.Counts.{Rose}
 use Rattle.soc_io.specs.Reading.{Held}
 use Rattle.soc_top.specs.declared.request.AloneWords.{AloneWords}
@@ -14,6 +14,7 @@ use Rattle.soc_top.specs.Wants.Want.{PlatformWant}
 use Rattle.soc_top.specs.Order.{Order, Cause, IsDecided, IsAllowed}
 use Rattle.soc_top.specs.Answers.{Texts, IsTextOf, Ends, Answers}
 use Rattle.soc_top.specs.Alone.{bundle_order, alone_order, AloneTexts, AloneAnswers}
+use Rattle.vep_manager.specs.Legal.{IsRoundRobin}
 use Rattle.soc_top.specs.Run.{run_order, RunTexts, RunAnswers}
 use Rattle.soc_top.proofs.Stops.{undecided, one_status, as_decided}
 use Rattle.soc_top.proofs.Turns.{run_memory}
@@ -77,5 +78,5 @@ alone_short e request says =
 
 pub run_short : (e : Exchange) (request : RunWords) → Says e (fault_line NoMemory) → RunAnswers e request 7
 run_short e request says =
-    answers_of e (run_order request) (RunTexts request) (Refused NoMemory)
+    answers_of e (run_order request) (RunTexts IsRoundRobin request) (Refused NoMemory)
     (run_memory e.held e.read_faults e.read_faults_now request, says)

@@ -1,29 +1,26 @@
 -- What one reading answers, as what it gives or why it refuses the request.
-use Rattle.std.proofs.Common.{◌≡◌, ◌≢◌, ℕ, ◌+◌, ◌<◌, ◌≤◌, List, length, replicate, Option, Some, None, Result, Ok, Err, refl, sym, ap, subst, arith}
+use Rattle.std.proofs.Common.{◌≡◌, ℕ, ◌+◌, ◌<◌, List, length, replicate, Option, Some, None, Ok, Err, refl, arith}
 use Rattle.std.proofs.lemmas.List.{length-replicate}
 use Rattle.soc_base.specs.declared.limits.TheConstants.{MOST_FILE_BYTES}
 use Rattle.soc_io.specs.Reading.{Held}
 use Rattle.toml_keys.specs.Document.{Reads}
 use Rattle.platform_model.specs.declared.platform.Platform.{Platform}
-use Rattle.platform_model.specs.declared.rules.PRule.{PRule}
 use Rattle.platform_model.specs.declared.rules.PRule.TheVariants.{P1}
 use Rattle.platform_file.specs.Reading as platforms
 use Rattle.bundle_model.specs.declared.bundle.Bundle.{Bundle}
 use Rattle.bundle_model.specs.declared.rules.BRule.{BRule}
 use Rattle.bundle_model.specs.declared.rules.BRule.TheVariants.{B1}
-use Rattle.bundle_model.specs.declared.world.Named.{Named}
 use Rattle.bundle_file.specs.Reading as bundles
 use Rattle.soc_top.specs.declared.fault.TopFault.{TopFault}
-use Rattle.soc_top.specs.declared.fault.TopFault.TheVariants.{Platform as BadPlatform, Unbuilt, ScriptTooLong, Script, Bundle as BadBundle, Absent, Read, NoMemory}
-use Rattle.soc_top.specs.Wants.{Want, Input, name_of, HasBytes, Gives, IsLong, Refuses}
-use Rattle.soc_top.specs.Wants.Want.{PlatformWant, OneTileWant, BundleWant, JudgedWant}
-use Rattle.soc_top.specs.Wants.Input.{PlatformRead, BundleRead}
+use Rattle.soc_top.specs.declared.fault.TopFault.TheVariants.{Platform as BadPlatform, ScriptTooLong, Script, Bundle as BadBundle, Absent, Read, NoMemory}
+use Rattle.soc_top.specs.Wants.{Want, name_of, HasBytes, Gives, IsLong, Refuses}
+use Rattle.soc_top.specs.Wants.Want.{PlatformWant, BundleWant, JudgedWant}
+use Rattle.soc_top.specs.Wants.Input.{BundleRead}
 use Rattle.soc_top.specs.inner.Loading.{Misses}
 
 pub missed : (told : Option Held) (before now : ℕ) (want : Want) (fault : TopFault)
     → Misses told before now (name_of want) fault → Refuses told before now want fault
 missed told before now want (BadPlatform rule) misses = absurd misses
-missed told before now want Unbuilt misses = absurd misses
 missed told before now want (ScriptTooLong other) misses = absurd misses
 missed told before now want (Script other found) misses = absurd misses
 missed told before now want (BadBundle other rule) misses = absurd misses
@@ -72,23 +69,10 @@ long_bundle told before now on name other is same =
     let long = has_long told before now name is in
     (long.bytes, long.has, (same, breaks_one on long.bytes long.long))
 
--- a platform file that refuses refuses as one of one tile too
-pub one_tile_too : (told : Option Held) (before now : ℕ) (name : List ℕ) (fault : TopFault)
-    → Refuses told before now (PlatformWant name) fault → Refuses told before now (OneTileWant name) fault
-one_tile_too told before now name (BadPlatform rule) refuses = refuses
-one_tile_too told before now name Unbuilt refuses = absurd refuses.2
-one_tile_too told before now name (ScriptTooLong other) refuses = absurd refuses.0
-one_tile_too told before now name (Script other found) refuses = absurd refuses.2
-one_tile_too told before now name (BadBundle other rule) refuses = absurd refuses.2
-one_tile_too told before now name (Absent other) refuses = refuses
-one_tile_too told before now name (Read other) refuses = refuses
-one_tile_too told before now name NoMemory refuses = refuses
-
 -- a file that isn't judged is no bundle
 pub bundle_too : (told : Option Held) (before now : ℕ) (on : Platform) (name : List ℕ) (fault : TopFault)
     → Refuses told before now (JudgedWant on name) fault → Refuses told before now (BundleWant on name) fault
 bundle_too told before now on name (BadPlatform rule) refuses = absurd refuses.2
-bundle_too told before now on name Unbuilt refuses = absurd refuses.2
 bundle_too told before now on name (ScriptTooLong other) refuses = absurd refuses.0
 bundle_too told before now on name (Script other found) refuses = absurd refuses.2
 bundle_too told before now on name (BadBundle other rule) refuses = absurd refuses.2

@@ -3,7 +3,7 @@ use Rattle.std.proofs.Common.{◌≡◌, ℕ, ◌≤◌, List, [], ◌∷◌, �
 use Rattle.soc_io.specs.Counts.{Rose}
 use Rattle.soc_io.specs.Reading.{Held}
 use Rattle.soc_top.specs.declared.fault.TopFault.{TopFault}
-use Rattle.soc_top.specs.declared.fault.TopFault.TheVariants.{Platform as BadPlatform, Unbuilt, ScriptTooLong, Script, Bundle as BadBundle, Absent, Read, NoMemory}
+use Rattle.soc_top.specs.declared.fault.TopFault.TheVariants.{Platform as BadPlatform, ScriptTooLong, Script, Bundle as BadBundle, Absent, Read, NoMemory}
 use Rattle.soc_top.specs.Wants.{Want, Input, Gives, IsAbsent, IsLong, Refuses}
 use Rattle.soc_top.specs.Order.{Order, Leaves, Cause}
 use Rattle.soc_top.specs.Order.Order.{Next, Whole}
@@ -32,7 +32,6 @@ long_later None before mid now name later rose = rose_later before mid now later
 pub refuses_later : (told : Option Held) (before mid now : ℕ) (want : Want) (fault : TopFault) → before ≤ mid
     → Refuses told mid now want fault → Refuses told before now want fault
 refuses_later told before mid now want (BadPlatform rule) later refuses = refuses
-refuses_later told before mid now want Unbuilt later refuses = refuses
 refuses_later told before mid now want (ScriptTooLong other) later refuses = (refuses.0, long_later told before mid now other later refuses.1)
 refuses_later told before mid now want (Script other found) later refuses = refuses
 refuses_later told before mid now want (BadBundle other rule) later refuses = refuses

@@ -1,5 +1,5 @@
 -- The bytes of scripts that were kept.
-use Rattle.std.proofs.Common.{◌≡◌, ℕ, ◌≤◌, Bool, true, false, cond, List, [], ◌∷◌, ◌++◌, length, find, Option, Some, None, Result, Ok, Err, IfOk, IfErr, All, refl, sym, subst}
+use Rattle.std.proofs.Common.{◌≡◌, ℕ, ◌≤◌, Bool, true, false, cond, List, [], ◌∷◌, ◌++◌, length, find, Option, Some, Result, Ok, Err, IfOk, IfErr, refl, sym, subst}
 use Rattle.std.specs.Str.{bytes_eq}
 use Rattle.std.proofs.lemmas.Result.{IfOk-weaker}
 use Rattle.std.proofs.lemmas.Slice.Eq.{bytes_eq-Decides}
@@ -8,7 +8,7 @@ use Rattle.soc_base.specs.declared.limits.TheConstants.{MOST_FILE_BYTES}
 use Rattle.soc_io.specs.Reading.{Held}
 use Rattle.script_file.specs.declared.command.Script.{Script}
 use Rattle.soc_top.specs.declared.fault.TopFault.{TopFault}
-use Rattle.soc_top.specs.declared.fault.TopFault.TheVariants.{Platform as BadPlatform, Unbuilt, ScriptTooLong, Script as BadScript, Bundle as BadBundle, Absent, Read, NoMemory}
+use Rattle.soc_top.specs.declared.fault.TopFault.TheVariants.{Platform as BadPlatform, ScriptTooLong, Script as BadScript, Bundle as BadBundle, Absent, Read, NoMemory}
 use Rattle.soc_top.specs.declared.script.Source.{Source}
 use Rattle.soc_top.specs.Wants.{HasBytes, Means, Gives, Refuses}
 use Rattle.soc_top.specs.Wants.Want.{ScriptWant}
@@ -19,7 +19,6 @@ pub faulty_script : (told : Option Held) (before now : ℕ) (name bytes : List �
     → HasBytes told name bytes → FaultsScript name room bytes fault
     → Refuses told before now (ScriptWant name room) fault
 faulty_script told before now name bytes room (BadPlatform rule) has faults = absurd faults
-faulty_script told before now name bytes room Unbuilt has faults = absurd faults
 faulty_script told before now name bytes room (ScriptTooLong other) has faults = absurd faults
 faulty_script told before now name bytes room (BadScript other found) has faults = (bytes, has, faults)
 faulty_script told before now name bytes room (BadBundle other rule) has faults = absurd faults

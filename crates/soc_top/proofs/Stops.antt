@@ -1,5 +1,5 @@
 -- What the bytes of files give excludes what they break, and comes to one first event.
-use Rattle.std.proofs.Common.{◌≡◌, ◌≢◌, ℕ, ◌<◌, ◌≤◌, ◌⊎◌, inl, inr, List, [], ◌∷◌, length, Option, Some, None, Result, Ok, Err, refl, sym, ap, ◌∙◌, subst, arith}
+use Rattle.std.proofs.Common.{◌≡◌, ℕ, ◌<◌, ◌⊎◌, inl, inr, List, [], ◌∷◌, length, Option, Some, None, Result, Ok, Err, refl, sym, ap, ◌∙◌, subst, arith}
 use Rattle.soc_base.specs.declared.limits.TheConstants.{MOST_FILE_BYTES}
 use Rattle.soc_io.specs.Counts.{Rose}
 use Rattle.soc_io.specs.Reading.{Held, held_at}
@@ -17,10 +17,10 @@ use Rattle.script_file.specs.declared.command.Script.{Script as Commands}
 use Rattle.script_file.specs.declared.rules.ScriptFault.{ScriptFault}
 use Rattle.script_file.specs.Commands.{script_meant}
 use Rattle.soc_top.specs.declared.fault.TopFault.{TopFault}
-use Rattle.soc_top.specs.declared.fault.TopFault.TheVariants.{Platform as BadPlatform, Unbuilt, ScriptTooLong, Script, Bundle as BadBundle, Absent, Read, NoMemory}
+use Rattle.soc_top.specs.declared.fault.TopFault.TheVariants.{Platform as BadPlatform, ScriptTooLong, Script, Bundle as BadBundle, Absent, Read, NoMemory}
 use Rattle.soc_top.specs.Faults.{fault_status}
 use Rattle.soc_top.specs.Wants.{Want, Input, name_of, Judges, Means, Breaks, Gives, Refuses}
-use Rattle.soc_top.specs.Wants.Want.{PlatformWant, OneTileWant, ScriptWant, BundleWant, JudgedWant}
+use Rattle.soc_top.specs.Wants.Want.{PlatformWant, ScriptWant, BundleWant, JudgedWant}
 use Rattle.soc_top.specs.Wants.Input.{PlatformRead, ScriptRead, BundleRead}
 use Rattle.soc_top.specs.Order.{Order, Leaves, AreRead, Reaches, Cause, IsDecided}
 use Rattle.soc_top.specs.Order.Order.{Next, Whole}
@@ -59,12 +59,6 @@ means_once (PlatformWant name) bytes (PlatformRead platform) (ScriptRead t) mean
 means_once (PlatformWant name) bytes (PlatformRead platform) (BundleRead m) means meant = absurd meant
 means_once (PlatformWant name) bytes (ScriptRead script) other means meant = absurd means
 means_once (PlatformWant name) bytes (BundleRead named) other means meant = absurd means
-means_once (OneTileWant name) bytes (PlatformRead platform) (PlatformRead q) means meant =
-    ap PlatformRead (platform_laws.gives_one bytes platform q means.0 meant.0)
-means_once (OneTileWant name) bytes (PlatformRead platform) (ScriptRead t) means meant = absurd meant
-means_once (OneTileWant name) bytes (PlatformRead platform) (BundleRead m) means meant = absurd meant
-means_once (OneTileWant name) bytes (ScriptRead script) other means meant = absurd means
-means_once (OneTileWant name) bytes (BundleRead named) other means meant = absurd means
 means_once (ScriptWant name room) bytes (PlatformRead platform) other means meant = absurd means
 means_once (ScriptWant name room) bytes (ScriptRead script) (PlatformRead q) means meant = absurd meant
 means_once (ScriptWant name room) bytes (ScriptRead script) (ScriptRead t) means meant =
@@ -105,20 +99,6 @@ broken_platform name bytes rule breaks (PlatformRead p) means = no_platform byte
 broken_platform name bytes rule breaks (ScriptRead s) means = means
 broken_platform name bytes rule breaks (BundleRead m) means = means
 
-broken_tile : (name bytes : List ℕ) (rule : PRule) → platforms.Breaks bytes rule → (input : Input)
-    → Means (OneTileWant name) bytes input → ⊥
-broken_tile name bytes rule breaks (PlatformRead p) means = no_platform bytes rule breaks p means.0
-broken_tile name bytes rule breaks (ScriptRead s) means = means
-broken_tile name bytes rule breaks (BundleRead m) means = means
-
-more_tiles : (name bytes : List ℕ) (q : Platform) → platforms.Gives bytes q → q.tiles ≢ 1 → (input : Input)
-    → Means (OneTileWant name) bytes input → ⊥
-more_tiles name bytes q gives many (PlatformRead p) means =
-    let same : q ≡ p = platform_laws.gives_one bytes q p gives means.0 in
-    many (ap (λ (x : Platform). x.tiles) same ∙ means.1)
-more_tiles name bytes q gives many (ScriptRead s) means = means
-more_tiles name bytes q gives many (BundleRead m) means = means
-
 one_meaning : (meant : Result (List Command) ScriptFault) (commands : List Command) (fault : ScriptFault)
     → meant ≡ Err fault → meant ≡ Ok commands → ⊥
 one_meaning meant commands fault err ok = cc
@@ -146,7 +126,6 @@ broken_bundle on name bytes rule breaks (BundleRead m) (_, (bundle, _, gives)) =
 -- the status of a refusal by what a file holds
 abbrev kind_status : Want → ℕ
 kind_status (PlatformWant name) = 2
-kind_status (OneTileWant name) = 2
 kind_status (ScriptWant name room) = 3
 kind_status (BundleWant on name) = 3
 kind_status (JudgedWant on name) = 3
@@ -154,23 +133,13 @@ kind_status (JudgedWant on name) = 3
 broken : (want : Want) (bytes : List ℕ) (fault : TopFault) → Breaks want bytes fault
     → (fault_status fault ≡ kind_status want) × ((input : Input) → Means want bytes input → ⊥)
 broken (PlatformWant name) bytes (BadPlatform rule) breaks = (refl, broken_platform name bytes rule breaks)
-broken (PlatformWant name) bytes Unbuilt breaks = absurd breaks
 broken (PlatformWant name) bytes (ScriptTooLong other) breaks = absurd breaks
 broken (PlatformWant name) bytes (Script other found) breaks = absurd breaks
 broken (PlatformWant name) bytes (BadBundle other rule) breaks = absurd breaks
 broken (PlatformWant name) bytes (Absent other) breaks = absurd breaks
 broken (PlatformWant name) bytes (Read other) breaks = absurd breaks
 broken (PlatformWant name) bytes NoMemory breaks = absurd breaks
-broken (OneTileWant name) bytes (BadPlatform rule) breaks = (refl, broken_tile name bytes rule breaks)
-broken (OneTileWant name) bytes Unbuilt breaks = (refl, more_tiles name bytes breaks.0 breaks.1 breaks.2)
-broken (OneTileWant name) bytes (ScriptTooLong other) breaks = absurd breaks
-broken (OneTileWant name) bytes (Script other found) breaks = absurd breaks
-broken (OneTileWant name) bytes (BadBundle other rule) breaks = absurd breaks
-broken (OneTileWant name) bytes (Absent other) breaks = absurd breaks
-broken (OneTileWant name) bytes (Read other) breaks = absurd breaks
-broken (OneTileWant name) bytes NoMemory breaks = absurd breaks
 broken (ScriptWant name room) bytes (BadPlatform rule) breaks = absurd breaks
-broken (ScriptWant name room) bytes Unbuilt breaks = absurd breaks
 broken (ScriptWant name room) bytes (ScriptTooLong other) breaks = absurd breaks
 broken (ScriptWant name room) bytes (Script other found) breaks = (refl, broken_script name bytes room found breaks.2)
 broken (ScriptWant name room) bytes (BadBundle other rule) breaks = absurd breaks
@@ -178,7 +147,6 @@ broken (ScriptWant name room) bytes (Absent other) breaks = absurd breaks
 broken (ScriptWant name room) bytes (Read other) breaks = absurd breaks
 broken (ScriptWant name room) bytes NoMemory breaks = absurd breaks
 broken (BundleWant on name) bytes (BadPlatform rule) breaks = absurd breaks
-broken (BundleWant on name) bytes Unbuilt breaks = absurd breaks
 broken (BundleWant on name) bytes (ScriptTooLong other) breaks = absurd breaks
 broken (BundleWant on name) bytes (Script other found) breaks = absurd breaks
 broken (BundleWant on name) bytes (BadBundle other rule) breaks = (refl, broken_bundle on name bytes rule breaks.1)
@@ -186,7 +154,6 @@ broken (BundleWant on name) bytes (Absent other) breaks = absurd breaks
 broken (BundleWant on name) bytes (Read other) breaks = absurd breaks
 broken (BundleWant on name) bytes NoMemory breaks = absurd breaks
 broken (JudgedWant on name) bytes (BadPlatform rule) breaks = absurd breaks
-broken (JudgedWant on name) bytes Unbuilt breaks = absurd breaks
 broken (JudgedWant on name) bytes (ScriptTooLong other) breaks = absurd breaks
 broken (JudgedWant on name) bytes (Script other found) breaks = absurd breaks
 broken (JudgedWant on name) bytes (BadBundle other rule) breaks = absurd breaks
@@ -234,7 +201,6 @@ stuck_absent held want name same none =
 stuck_long : (held : Held) (want : Want) (name : List ℕ) → Refuses (Some held) 0 0 want (ScriptTooLong name)
     → IsStuck held want (ScriptTooLong name)
 stuck_long held (PlatformWant other) name refuses = absurd refuses.0
-stuck_long held (OneTileWant other) name refuses = absurd refuses.0
 stuck_long held (ScriptWant other room) name (same, (bytes, is, long)) =
     let there : held_at held other ≡ Some bytes = ap (held_at held) (sym same) ∙ is in
     stuck_by held (ScriptWant other room) (ScriptTooLong name) bytes there refl (long_script other bytes room long)
@@ -257,8 +223,6 @@ stop_at held order fault want (inputs, (after, leaves)) stuck =
 stop_of : (held : Held) (order : Order) (fault : TopFault) → IsDecided held order fault → IsStop held order fault
 stop_of held order (BadPlatform rule) (want, reaches, (bytes, is, breaks)) =
     stop_at held order (BadPlatform rule) want reaches (stuck_broken held want (BadPlatform rule) bytes is breaks)
-stop_of held order Unbuilt (want, reaches, (bytes, is, breaks)) =
-    stop_at held order Unbuilt want reaches (stuck_broken held want Unbuilt bytes is breaks)
 stop_of held order (ScriptTooLong other) (want, reaches, refuses) =
     stop_at held order (ScriptTooLong other) want reaches (stuck_long held want other refuses)
 stop_of held order (Script other found) (want, reaches, (bytes, is, breaks)) =
@@ -327,7 +291,6 @@ one_status held order fault other here there =
 pub as_decided : (held : Held) (before now : ℕ) (order : Order) (fault : TopFault) → (Rose before now → ⊥)
     → Cause (Some held) before now order fault → IsDecided held order fault ⊎ (fault ≡ NoMemory)
 as_decided held before now order (BadPlatform rule) calm cause = inl cause
-as_decided held before now order Unbuilt calm cause = inl cause
 as_decided held before now order (ScriptTooLong other) calm cause = inl cause
 as_decided held before now order (Script other found) calm cause = inl cause
 as_decided held before now order (BadBundle other rule) calm cause = inl cause

@@ -1,6 +1,5 @@
 -- The readings of a run, script after script and bundle file after bundle file.
 use Rattle.std.proofs.Common.{◌≡◌, ℕ, ◌+◌, ◌-◌, ◌<◌, ◌≤◌, ◌⊎◌, inl, inr, List, [], ◌∷◌, ◌++◌, length, length-append, map, drop, get_or, Option, All, refl, sym, ap, ◌∙◌, subst, arith}
-use Rattle.std.specs.List.{flat_map}
 use Rattle.std.proofs.Math.ListN.{drop_of_length-le}
 use Rattle.std.proofs.lemmas.Grind.{flat_map-append}
 use Rattle.std.proofs.lemmas.List.{append-nil, map-append, drop_more}
@@ -17,11 +16,11 @@ use Rattle.soc_top.specs.declared.request.RunWords.{RunWords}
 use Rattle.soc_top.specs.declared.fault.TopFault.{TopFault}
 use Rattle.soc_top.specs.declared.fault.TopFault.TheVariants.{NoMemory}
 use Rattle.soc_top.specs.Wants.{Gives, Refuses}
-use Rattle.soc_top.specs.Wants.Want.{OneTileWant, ScriptWant, JudgedWant}
+use Rattle.soc_top.specs.Wants.Want.{PlatformWant, ScriptWant, JudgedWant}
 use Rattle.soc_top.specs.Wants.Input.{PlatformRead, ScriptRead, BundleRead}
 use Rattle.soc_top.specs.Order.{Leaves, AreRead, Cause}
 use Rattle.soc_top.specs.Order.Order.{Whole}
-use Rattle.soc_top.specs.Run.{bundle_names, bundles_order, commands_in, scripts_order, after_platform, run_order, inputs_of, EndsAt, GivesSetup}
+use Rattle.soc_top.specs.Run.{bundle_names, bundles_order, commands_in, scripts_order, after_platform, run_order, GivesSetup}
 use Rattle.soc_top.specs.inner.Naming.{all_commands, InTime, IsAdded, AreScripts, IsJudged, catalog_names}
 use Rattle.soc_top.proofs.Orders.{leaves_then, cause_at, cause_after}
 use Rattle.soc_top.proofs.Stops.{not_whole}
@@ -187,7 +186,7 @@ names_read told platform (name ∷ names) (named ∷ catalog) ((bytes, has, (sam
 -- a setup by what was read for it
 pub setup_read : (told : Option Held) (request : RunWords) (platform : Platform) (scripts : List Script)
     (catalog : List Named) (setup : Setup)
-    → Gives told (OneTileWant request.platform) (PlatformRead platform) → AreScripts told request.scripts scripts
+    → Gives told (PlatformWant request.platform) (PlatformRead platform) → AreScripts told request.scripts scripts
     → AreRead told (bundles_order platform (bundle_names (all_commands scripts))) (map BundleRead catalog)
     → setup.world.platform ≡ platform → setup.scripts ≡ scripts → setup.world.catalog ≡ catalog
     → setup.budget ≡ slot_up_of request.budget platform.slot_cycles → GivesSetup told request setup
@@ -203,12 +202,12 @@ setup_read told request platform scripts catalog setup gives read judged is are 
 pub run_memory : (told : Option Held) (before now : ℕ) (request : RunWords)
     → Cause told before now (run_order request) NoMemory
 run_memory told before now request =
-    (OneTileWant request.platform, ([], (after_platform request, refl)), tt)
+    (PlatformWant request.platform, ([], (after_platform request, refl)), tt)
 
 -- a script refuses the request, or a bundle file does, after the files before it
 pub script_stops : (told : Option Held) (before mid now : ℕ) (request : RunWords) (platform : Platform)
     (fault : TopFault)
-    → before ≤ mid → Gives told (OneTileWant request.platform) (PlatformRead platform)
+    → before ≤ mid → Gives told (PlatformWant request.platform) (PlatformRead platform)
     → ((on : Platform) → Cause told mid now (scripts_order on request.scripts []) fault)
     → Cause told before now (run_order request) fault
 script_stops told before mid now request platform fault later gives cause =
@@ -217,7 +216,7 @@ script_stops told before mid now request platform fault later gives cause =
 
 pub bundle_stops : (told : Option Held) (before mid now : ℕ) (request : RunWords) (platform : Platform)
     (scripts : List Script) (fault : TopFault)
-    → before ≤ mid → Gives told (OneTileWant request.platform) (PlatformRead platform)
+    → before ≤ mid → Gives told (PlatformWant request.platform) (PlatformRead platform)
     → AreScripts told request.scripts scripts
     → (fault ≡ NoMemory) ⊎ Cause told mid now (bundles_order platform (bundle_names (all_commands scripts))) fault
     → Cause told before now (run_order request) fault

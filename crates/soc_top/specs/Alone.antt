@@ -3,7 +3,6 @@ use Rattle.std.specs.Prelude.{◌≡◌, ℕ, max, List, [], ◌∷◌, Some, Ok
 use Rattle.soc_base.specs.Time.{slot_up_of}
 use Rattle.platform_model.specs.declared.platform.Platform.{Platform}
 use Rattle.bundle_model.specs.declared.bundle.Bundle.{Bundle}
-use Rattle.bundle_model.specs.declared.world.Named.{Named}
 use Rattle.alone_model.specs.declared.trace.AppTrace.{AppTrace}
 use Rattle.alone_model.specs.App.{alone_at}
 use Rattle.alone_model.specs.Trace.{IsTraceOf}

@@ -6,7 +6,7 @@ use Rattle.script_file.specs.declared.rules.ScriptFault.TheVariants.{Line, TooMa
 use Rattle.report_text.specs.Rows.{line_end}
 use Rattle.bundle_model.specs.Words.{bundle_rule_text}
 use Rattle.soc_top.specs.declared.fault.TopFault.{TopFault}
-use Rattle.soc_top.specs.declared.fault.TopFault.TheVariants.{Platform, Unbuilt, ScriptTooLong, Script, Bundle, Absent, Read, NoMemory}
+use Rattle.soc_top.specs.declared.fault.TopFault.TheVariants.{Platform, ScriptTooLong, Script, Bundle, Absent, Read, NoMemory}
 use Rattle.soc_top.specs.declared.ending.Ending.{Ending}
 use Rattle.soc_top.specs.declared.ending.Ending.TheVariants.{Done, Unwritten, Refused}
 use Rattle.platform_model.specs.Words.{platform_rule_text}
@@ -20,7 +20,6 @@ script_fault_text NoScriptMemory = codes " no memory"
 -- what is printed where a request is refused, as in `compsoc: script s.txt line 3 S1`
 unfoldable pub fault_line : TopFault → List ℕ
 fault_line (Platform rule) = codes "compsoc: platform " ++ platform_rule_text rule ++ line_end
-fault_line Unbuilt = codes "compsoc: platform unbuilt" ++ line_end
 fault_line (ScriptTooLong name) = codes "compsoc: script " ++ name ++ codes " too long" ++ line_end
 fault_line (Script name fault) = codes "compsoc: script " ++ name ++ script_fault_text fault ++ line_end
 fault_line (Bundle name rule) = codes "compsoc: bundle " ++ name ++ codes " " ++ bundle_rule_text rule ++ line_end
@@ -31,7 +30,6 @@ fault_line NoMemory = codes "compsoc: memory" ++ line_end
 -- the status of a refusal
 abbrev pub fault_status : TopFault → ℕ
 fault_status (Platform rule) = 2
-fault_status Unbuilt = 2
 fault_status (ScriptTooLong name) = 3
 fault_status (Script name fault) = 3
 fault_status (Bundle name rule) = 3

@@ -2,7 +2,7 @@
 use Rattle.std.specs.Prelude.{◌≡◌, ℕ, List, [], ◌∷◌, Option, Some}
 use Rattle.soc_io.specs.Reading.{Held}
 use Rattle.soc_top.specs.declared.fault.TopFault.{TopFault}
-use Rattle.soc_top.specs.declared.fault.TopFault.TheVariants.{Platform, Unbuilt, ScriptTooLong, Script, Bundle, Absent, Read, NoMemory}
+use Rattle.soc_top.specs.declared.fault.TopFault.TheVariants.{Read, NoMemory}
 use Rattle.soc_top.specs.Wants.{Want, Input, Gives, Refuses}
 
 -- the file that is read next, and by what it gives the order of the files after it; or all are read

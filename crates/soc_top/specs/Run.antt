@@ -16,7 +16,7 @@ use Rattle.soc_top.specs.declared.request.Request.TheVariants.{Run}
 use Rattle.soc_top.specs.Request.{asked_of}
 use Rattle.soc_top.specs.Exchange.{Exchange}
 use Rattle.soc_top.specs.Wants.{Input}
-use Rattle.soc_top.specs.Wants.Want.{OneTileWant, ScriptWant, JudgedWant}
+use Rattle.soc_top.specs.Wants.Want.{PlatformWant, ScriptWant, JudgedWant}
 use Rattle.soc_top.specs.Wants.Input.{PlatformRead, ScriptRead, BundleRead}
 use Rattle.soc_top.specs.Order.{Order, AreRead}
 use Rattle.soc_top.specs.Order.Order.{Next, Whole}
@@ -54,9 +54,9 @@ after_platform request (PlatformRead platform) = scripts_order platform request.
 after_platform request (ScriptRead script) = Whole
 after_platform request (BundleRead named) = Whole
 
--- the platform is read and judged first, which for now has one tile; then each script; then each bundle
+-- the platform is read and judged first; then each script; then each bundle
 abbrev pub run_order : RunWords → Order
-run_order request = Next (OneTileWant request.platform) (after_platform request)
+run_order request = Next (PlatformWant request.platform) (after_platform request)
 
 -- what the files of a setup gave: its platform, the scripts of its sessions in order, its bundle files
 abbrev pub inputs_of : Setup → List Input
@@ -72,19 +72,20 @@ abbrev pub GivesSetup : Option Held → RunWords → Setup → Type 0
 GivesSetup told request setup =
     AreRead told (run_order request) (inputs_of setup) × EndsAt request setup
 
--- the text is the report of the legal history of all commands of a setup, each application's rows and
+-- the text is the report of a history of a setup that is one of these (`Kept`), each application's rows and
 -- parts being the trace that it has alone
-abbrev pub IsReportOf : Setup → List ℕ → Type 0
-IsReportOf setup text = (history : List Entry) × IsRoundRobin setup history × IsReport setup history text
+abbrev pub IsReportOf : (Setup → List Entry → Type 0) → Setup → List ℕ → Type 0
+IsReportOf Kept setup text = (history : List Entry) × Kept setup history × IsReport setup history text
 
 -- the report, by what the files gave: a setup, of which its own type says what its loads are
-abbrev pub RunTexts : RunWords → List Input → List ℕ → Type 0
-RunTexts request inputs text =
-    (setup : Setup) × (inputs ≡ inputs_of setup) × EndsAt request setup × IsReportOf setup text
+abbrev pub RunTexts : (Setup → List Entry → Type 0) → RunWords → List Input → List ℕ → Type 0
+RunTexts Kept request inputs text =
+    (setup : Setup) × (inputs ≡ inputs_of setup) × EndsAt request setup × IsReportOf Kept setup text
 
--- how a request to run may end with a status
+-- how a request to run may end with a status, on one thread: the history is the legal one of all commands,
+-- in rounds
 abbrev pub RunAnswers : Exchange → RunWords → ℕ → Type 0
-RunAnswers e request status = Answers e (run_order request) (RunTexts request) status
+RunAnswers e request status = Answers e (run_order request) (RunTexts IsRoundRobin request) status
 
 -- the same, where the words ask for one
 abbrev pub AnswersRun : Exchange → List (List ℕ) → ℕ → Type 0

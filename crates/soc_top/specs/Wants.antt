@@ -1,5 +1,5 @@
 -- What one file of a request is read as, what it gives, and why it refuses the request.
-use Rattle.std.specs.Prelude.{◌≡◌, ◌≢◌, ℕ, ◌<◌, ◌≤◌, List, length, Option, Some, None, Result, Ok, Err}
+use Rattle.std.specs.Prelude.{◌≡◌, ℕ, ◌<◌, ◌≤◌, List, length, Option, Some, None, Result, Ok, Err}
 use Rattle.soc_base.specs.declared.limits.TheConstants.{MOST_FILE_BYTES}
 use Rattle.soc_io.specs.Counts.{Rose}
 use Rattle.soc_io.specs.Reading.{Held, held_at}
@@ -12,13 +12,12 @@ use Rattle.bundle_file.specs.Reading as bundles
 use Rattle.script_file.specs.declared.command.Script.{Script as Commands}
 use Rattle.script_file.specs.Commands.{script_meant}
 use Rattle.soc_top.specs.declared.fault.TopFault.{TopFault}
-use Rattle.soc_top.specs.declared.fault.TopFault.TheVariants.{Platform as BadPlatform, Unbuilt, ScriptTooLong, Script, Bundle as BadBundle, Absent, Read, NoMemory}
+use Rattle.soc_top.specs.declared.fault.TopFault.TheVariants.{Platform as BadPlatform, ScriptTooLong, Script, Bundle as BadBundle, Absent, Read, NoMemory}
 
--- a file by its name, and what it is read as: a platform; a platform of one tile; a script with room for
--- so many commands; a bundle that must keep its rules on a platform; a bundle that is only judged there
+-- a file by its name, and what it is read as: a platform; a script with room for so many commands; a
+-- bundle that must keep its rules on a platform; a bundle that is only judged there
 pub data Want : Type 0 where
   PlatformWant : List ℕ → Want
-  OneTileWant : List ℕ → Want
   ScriptWant : List ℕ → ℕ → Want
   BundleWant : Platform → List ℕ → Want
   JudgedWant : Platform → List ℕ → Want
@@ -26,7 +25,6 @@ pub data Want : Type 0 where
 -- the name of the file
 abbrev pub name_of : Want → List ℕ
 name_of (PlatformWant name) = name
-name_of (OneTileWant name) = name
 name_of (ScriptWant name room) = name
 name_of (BundleWant platform name) = name
 name_of (JudgedWant platform name) = name
@@ -46,7 +44,6 @@ Judges platform bytes (Err rule) = bundles.Breaks platform bytes rule
 -- what bytes give
 abbrev pub Means : Want → List ℕ → Input → Type 0
 Means (PlatformWant name) bytes (PlatformRead platform) = platforms.Gives bytes platform
-Means (OneTileWant name) bytes (PlatformRead platform) = platforms.Gives bytes platform × (platform.tiles ≡ 1)
 Means (ScriptWant name room) bytes (ScriptRead script) =
     (length bytes ≤ MOST_FILE_BYTES) × (script_meant bytes room ≡ Ok script.commands)
 Means (BundleWant platform name) bytes (BundleRead named) =
@@ -57,9 +54,6 @@ Means _ _ _ = ⊥
 -- why bytes are refused. A platform or a bundle that is too long breaks the first of its rules.
 abbrev pub Breaks : Want → List ℕ → TopFault → Type 0
 Breaks (PlatformWant name) bytes (BadPlatform rule) = platforms.Breaks bytes rule
-Breaks (OneTileWant name) bytes (BadPlatform rule) = platforms.Breaks bytes rule
-Breaks (OneTileWant name) bytes Unbuilt =
-    (platform : Platform) × platforms.Gives bytes platform × (platform.tiles ≢ 1)
 Breaks (ScriptWant name room) bytes (Script other fault) =
     (other ≡ name) × (length bytes ≤ MOST_FILE_BYTES) × (script_meant bytes room ≡ Err fault)
 Breaks (BundleWant platform name) bytes (BadBundle other rule) = (other ≡ name) × bundles.Breaks platform bytes rule

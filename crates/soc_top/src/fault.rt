@@ -17,8 +17,6 @@ use soc_io::{Printer, Sink};
 pub enum TopFault {
     /// The platform file breaks this rule, and none before it.
     Platform(PRule),
-    /// The platform has more than one tile.
-    Unbuilt,
     /// The script is longer than files may be.
     ScriptTooLong(Text),
     /// The script has this fault.
@@ -92,7 +90,6 @@ fn pieces(fault: &TopFault) -> (&str, &str, Line)
 {
     match fault {
         TopFault::Platform(rule) => ("compsoc: platform ", rule.word(), text_back("")),
-        TopFault::Unbuilt => ("compsoc: platform ", "unbuilt", text_back("")),
         TopFault::ScriptTooLong(name) => {
             ("compsoc: script ", name.as_str(), text_back(" too long"))
         }
@@ -111,7 +108,7 @@ pub fn status(fault: &TopFault) -> u8
     ensures { result ≡ fault_status fault.now }
 {
     match fault {
-        TopFault::Platform(_) | TopFault::Unbuilt => 2,
+        TopFault::Platform(_) => 2,
         TopFault::ScriptTooLong(_) | TopFault::Script(_, _) | TopFault::Bundle(_, _) => 3,
         TopFault::Absent(_) => 4,
         TopFault::Read(_) => 5,

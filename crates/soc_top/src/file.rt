@@ -3,7 +3,7 @@
 ghost use Rattle.std.specs.Prelude.{◌≡◌, ◌≤◌, Ok, IfOk, IfErr};
 ghost use Rattle.bundle_model.specs.WellFormed.{IsWellFormed};
 ghost use Rattle.soc_top.specs.Wants.{Gives, Refuses};
-ghost use Rattle.soc_top.specs.Wants.Want.{PlatformWant, OneTileWant, BundleWant, JudgedWant};
+ghost use Rattle.soc_top.specs.Wants.Want.{PlatformWant, BundleWant, JudgedWant};
 ghost use Rattle.soc_top.specs.Wants.Input.{PlatformRead, BundleRead};
 ghost use Rattle.soc_top.specs.inner.Loading.{HasContent, Misses};
 
@@ -69,29 +69,6 @@ pub fn load_platform<F: Files>(
         },
         Content::TooLong => Err(TopFault::Platform(PRule::P1)),
     }
-}
-
-/// Reads and judges a platform file, and refuses a platform of more than one tile.
-#[tactic(auto, using(crate::proofs::Missing::one_tile_too))]
-pub fn load_one_tile<F: Files>(
-    alloc: Global,
-    name: &Text,
-    files: &mut F,
-) -> Result<Platform, TopFault>
-    ensures same { F.holds files.new ≡ F.holds files.old }
-    ensures counted { F.faults files.old ≤ F.faults files.new }
-    ensures gives { IfOk result (λ platform. Gives (F.holds files.old) (OneTileWant name.now) (PlatformRead platform)) }
-    ensures one_tile { IfOk result (λ platform. platform.tiles ≡ 1) }
-    ensures refused { IfErr result (Refuses (F.holds files.old) (F.faults files.old) (F.faults files.new) (OneTileWant name.now)) }
-{
-    let platform = match load_platform(alloc, name, files) {
-        Ok(platform) => platform,
-        Err(fault) => return Err(fault),
-    };
-    if platform.tiles != 1 {
-        return Err(TopFault::Unbuilt);
-    }
-    Ok(platform)
 }
 
 /// Reads and judges a bundle file for a platform. A file that is too long breaks rule B1.

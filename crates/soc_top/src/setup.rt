@@ -12,7 +12,7 @@ ghost use Rattle.soc_top.specs.inner.Naming.{all_commands, InTime, catalog_names
 
 use crate::catalog::{bundle_names, read_catalog};
 use crate::fault::TopFault;
-use crate::file::load_one_tile;
+use crate::file::load_platform;
 use crate::request::RunWords;
 use crate::script::load_scripts;
 use bundle_model::{Named, World};
@@ -87,8 +87,8 @@ fn catalog_of<F: Files>(
 
 /// Reads and judges the files of a request, in this order: the platform, each script, and each bundle file
 /// in the order of its first naming; a bundle file that breaks a rule is part of the setup as such. Refuses
-/// by the first event that does: the platform is absent, unread, breaks a rule or has more than one tile; a
-/// script is absent, unread, too long or has a fault; a bundle file is absent or unread.
+/// by the first event that does: the platform is absent, unread or breaks a rule; a script is absent, unread,
+/// too long or has a fault; a bundle file is absent or unread.
 #[tactic(auto, using(crate::proofs::Orders::stopped_first, crate::proofs::Turns::run_memory))]
 pub fn read_setup<F: Files>(
     alloc: Global,
@@ -99,11 +99,10 @@ pub fn read_setup<F: Files>(
     ensures same { F.holds files.new ≡ F.holds files.old }
     ensures counted { F.faults files.old ≤ F.faults files.new }
     ensures read { IfOk result (GivesSetup (F.holds files.old) request.now) }
-    ensures one_tile { IfOk result (λ setup. setup.world.platform.tiles ≡ 1) }
     ensures sound { IfOk result IsSound }
     ensures stopped { IfErr result (Cause (F.holds files.old) (F.faults files.old) (F.faults files.new) (run_order request.now)) }
 {
-    let platform = match load_one_tile(alloc, &request.platform, files) {
+    let platform = match load_platform(alloc, &request.platform, files) {
         Ok(platform) => platform,
         Err(fault) => return Err(fault),
     };

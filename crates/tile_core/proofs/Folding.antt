@@ -32,8 +32,8 @@ pub record IsTile (number at : ℕ) (loads : List LoadName) (slots : ℕ) (t : T
   pub owners : length t.kernel.owners ≡ slots
   pub places : length t.places ≡ slots
 
-pub tile_removed : (number at : ℕ) (loads : List LoadName) (slots : ℕ) (t : TileState) (part : Part) → IsTile number at loads slots t → IsTile number at loads slots (removed t part)
-tile_removed number at loads slots t part is = record {
+pub tile_removed : (world : World) (number at : ℕ) (loads : List LoadName) (slots : ℕ) (t : TileState) (part : Part) → IsTile number at loads slots t → IsTile number at loads slots (removed world t part)
+tile_removed world number at loads slots t part is = record {
   number_is = is.number_is;
   at_is = is.at_is;
   loads_are = is.loads_are;
@@ -41,8 +41,8 @@ tile_removed number at loads slots t part is = record {
   places = length-set t.places (number_of part) None ∙ is.places;
 }
 
-pub tile_installed : (number at : ℕ) (loads : List LoadName) (slots : ℕ) (t : TileState) (place : ℕ) (part : Part) → IsTile number at loads slots t → IsTile number at loads slots (installed t place part)
-tile_installed number at loads slots t place part is = record {
+pub tile_installed : (world : World) (number at : ℕ) (loads : List LoadName) (slots : ℕ) (t : TileState) (place : ℕ) (part : Part) → IsTile number at loads slots t → IsTile number at loads slots (installed world t place part)
+tile_installed world number at loads slots t place part is = record {
   number_is = is.number_is;
   at_is = is.at_is;
   loads_are = is.loads_are;
@@ -62,7 +62,8 @@ is_of grant load = option_map_or (λ (l : LoadName). same_label grant.label l.la
 abbrev pub touches : (Grant → Bool) → List Grant → Option LoadName → Bool
 touches p grants load = option_map_or (λ (l : LoadName). touched p grants l.label) load false
 
-same_from : (one other : Label) → one ≡ other → same_label one other ≡ true
+-- equal labels are found to be one
+pub same_from : (one other : Label) → one ≡ other → same_label one other ≡ true
 same_from one other same =
     and_from (one.session == other.session) (one.load == other.load) (eq-eqb one.session other.session (ap (λ (l : Label). l.session) same)) (eq-eqb one.load other.load (ap (λ (l : Label). l.load) same))
 
@@ -96,11 +97,11 @@ pub filter_out : (p : Grant → Bool) (grant : Grant) (grants : List Grant) → 
 filter_out p grant grants fails = ap (λ b. cond b (grant ∷ filter p grants) (filter p grants)) fails
 
 -- a relation that goes with removal and installation
-pub record GoesOn (slots : ℕ) (parts : ℕ → Option Part) (cycle : ℕ) (R : (ℕ → Option ℕ) → (ℕ → PartState) → TileState → Type 0) : Type 0 where
+pub record GoesAlong (world : World) (slots : ℕ) (parts : ℕ → Option Part) (cycle : ℕ) (R : (ℕ → Option ℕ) → (ℕ → PartState) → TileState → Type 0) : Type 0 where
   pub by : (granted later : ℕ → Option ℕ) (view other : ℕ → PartState) (t : TileState) → ((place : ℕ) → later place ≡ granted place) → ((place : ℕ) (part : Part) → parts place ≡ Some part → other place ≡ view place) → R granted view t → R later other t
   pub holds : (granted : ℕ → Option ℕ) (view : ℕ → PartState) (t : TileState) → R granted view t → AreInstalled slots parts granted t
-  pub leaves : (granted later : ℕ → Option ℕ) (view : ℕ → PartState) (t : TileState) (i : ℕ) (part : Part) (start : ℕ) → R granted view t → parts i ≡ Some part → granted i ≡ Some start → later i ≡ None → ((place : ℕ) → place ≢ i → later place ≡ granted place) → R later view (removed t part)
-  pub comes : (granted later : ℕ → Option ℕ) (view after : ℕ → PartState) (t : TileState) (i : ℕ) (part : Part) → R granted view t → IsRoom slots parts granted t i part → later i ≡ Some cycle → ((place : ℕ) → place ≢ i → later place ≡ granted place) → after i ≡ opening_view part (view i).log → ((place : ℕ) → place ≢ i → after place ≡ view place) → R later after (installed t i part)
+  pub leaves : (granted later : ℕ → Option ℕ) (view : ℕ → PartState) (t : TileState) (i : ℕ) (part : Part) (start : ℕ) → R granted view t → parts i ≡ Some part → granted i ≡ Some start → later i ≡ None → ((place : ℕ) → place ≢ i → later place ≡ granted place) → R later view (removed world t part)
+  pub comes : (granted later : ℕ → Option ℕ) (view after : ℕ → PartState) (t : TileState) (i : ℕ) (part : Part) → R granted view t → IsRoom slots parts granted t i part → later i ≡ Some cycle → ((place : ℕ) → place ≢ i → later place ≡ granted place) → after i ≡ opening_view world part (view i).log → ((place : ℕ) → place ≢ i → after place ≡ view place) → R later after (installed world t i part)
 
 -- what is granted once some grants have ended
 abbrev pub granted_without : (Grant → Bool) → List Grant → List LoadName → (ℕ → Option ℕ) → ℕ → Option ℕ
@@ -156,13 +157,13 @@ other_load grant other grants k load labelled there same =
     let one : zero ≡ suc k = keyed zero (suc k) grant other refl there (same_so grant.label load.label is ∙ sym same) in
     omega arith)
 
-left_by : (world : World) (number at : ℕ) (loads : List LoadName) (slots : ℕ) (t : TileState) (grant : Grant) (place : Option ℕ) → IsTile number at loads slots t → position (λ (load : LoadName). same_label load.label grant.label) loads ≡ place → after_end world t grant ≡ removed_if t (option_and_then (site_part world number loads) place)
+left_by : (world : World) (number at : ℕ) (loads : List LoadName) (slots : ℕ) (t : TileState) (grant : Grant) (place : Option ℕ) → IsTile number at loads slots t → position (λ (load : LoadName). same_label load.label grant.label) loads ≡ place → after_end world t grant ≡ removed_if world t (option_and_then (site_part world number loads) place)
 left_by world number at loads slots t grant place is found =
-    ap₂ (λ (n : ℕ) (xs : List LoadName). removed_if t (option_and_then (site_part world n xs) (position (λ (load : LoadName). same_label load.label grant.label) xs))) is.number_is is.loads_are
-    ∙ ap (λ (o : Option ℕ). removed_if t (option_and_then (site_part world number loads) o)) found
+    ap₂ (λ (n : ℕ) (xs : List LoadName). removed_if world t (option_and_then (site_part world n xs) (position (λ (load : LoadName). same_label load.label grant.label) xs))) is.number_is is.loads_are
+    ∙ ap (λ (o : Option ℕ). removed_if world t (option_and_then (site_part world number loads) o)) found
 
 -- the grants that end
-pub fold_out : (world : World) (number at : ℕ) (loads : List LoadName) (slots cycle : ℕ) (R : (ℕ → Option ℕ) → (ℕ → PartState) → TileState → Type 0) → GoesOn slots (site_part world number loads) cycle R → AreKeyed (λ (load : LoadName). load.label) loads → HaveParts (site_part world number loads) loads → (p : Grant → Bool) (grants : List Grant) (granted : ℕ → Option ℕ) (view : ℕ → PartState) (t : TileState) → AreLabelled grants → IsTile number at loads slots t → AreThere p grants loads granted → R granted view t → R (granted_without p grants loads granted) view (fold (after_end world) t (filter p grants)) × IsTile number at loads slots (fold (after_end world) t (filter p grants))
+pub fold_out : (world : World) (number at : ℕ) (loads : List LoadName) (slots cycle : ℕ) (R : (ℕ → Option ℕ) → (ℕ → PartState) → TileState → Type 0) → GoesAlong world slots (site_part world number loads) cycle R → AreKeyed (λ (load : LoadName). load.label) loads → HaveParts (site_part world number loads) loads → (p : Grant → Bool) (grants : List Grant) (granted : ℕ → Option ℕ) (view : ℕ → PartState) (t : TileState) → AreLabelled grants → IsTile number at loads slots t → AreThere p grants loads granted → R granted view t → R (granted_without p grants loads granted) view (fold (after_end world) t (filter p grants)) × IsTile number at loads slots (fold (after_end world) t (filter p grants))
 fold_out world number at loads slots cycle R goes keyed have p [] granted view t labelled is there holds =
     (goes.by granted (granted_without p [] loads granted) view view t (λ place. nothing (slice_get loads place) (granted place)) (λ place part is. refl) holds, is)
   where
@@ -196,12 +197,12 @@ fold_out world number at loads slots cycle R goes keyed have p (grant ∷ grants
             | Some i ↦ λ found.
                 let one = at_place_of (site_part world number loads) loads grant i have found in
                 let start = there zero grant i one.load refl passes one.there one.label in
-                step (removed t one.part)
-                (left_by world number at loads slots t grant (Some i) is found ∙ ap (removed_if t) one.part_is)
+                step (removed world t one.part)
+                (left_by world number at loads slots t grant (Some i) is found ∙ ap (removed_if world t) one.part_is)
                 (goes.leaves granted later view t i one.part start.0 holds one.part_is start.1
                 (ap (λ b. cond b None (granted i)) (is_of_own (site_part world number loads) loads grant i one))
                 (λ place apart. ap (λ b. cond b None (granted place)) (not_of (site_part world number loads) loads grant i place keyed one apart)))
-                (tile_removed number at loads slots t one.part is)
+                (tile_removed world number at loads slots t one.part is)
           ] in
           by_place (position (λ (load : LoadName). same_label load.label grant.label) loads) refl
     ]

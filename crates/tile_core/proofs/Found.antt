@@ -1,7 +1,7 @@
 -- What a tile answers of the load at a place.
-use Rattle.std.proofs.Common.{◌≡◌, ℕ, ◌==◌, Bool, true, false, cond, List, [], position, slice_get, Option, Some, None, is_some, option_and_then, Contains, refl, sym, ap, ◌∙◌, inl, inr}
+use Rattle.std.proofs.Common.{◌≡◌, ℕ, ◌==◌, Bool, true, false, cond, List, position, slice_get, Option, Some, None, is_some, option_and_then, Contains, refl, sym, ap, ◌∙◌, inl, inr}
 use Rattle.std.specs.Option.{option_map_or}
-use Rattle.std.proofs.lemmas.Bool.{true≢false, cases_eq, and_from, eq-eqb, ne_eqb}
+use Rattle.std.proofs.lemmas.Bool.{true≢false, cases_eq, eq-eqb, ne_eqb}
 use Rattle.std.proofs.lemmas.Option.{none-some, slice_get-get_or}
 use Rattle.soc_base.specs.declared.label.Label.{Label}
 use Rattle.bundle_model.specs.declared.bundle.Part.{Part}
@@ -11,14 +11,14 @@ use Rattle.bundle_model.specs.declared.world.Grant.{Grant}
 use Rattle.bundle_model.specs.World.{same_label, part_on}
 use Rattle.bundle_model.proofs.Laws.{at_place, contained_place, filtered_at, same_so}
 use Rattle.trace_log.specs.Log.{Log, new_log}
-use Rattle.ni_port.specs.SizedPort.{SizedPort}
 use Rattle.part_model.specs.Part.{PartState}
-use Rattle.comik.specs.declared.context.Context.{Context}
 use Rattle.tile_core.specs.Tile.{TileState, number_of, place_at, load_part, load_place, log_of, state_with, words_at, is_installed, state_if, state_at, state_of}
 use Rattle.tile_core.specs.Cycle.{words_of}
 use Rattle.tile_core.specs.Fit.{granted_from}
 use Rattle.tile_core.specs.Holds.{HoldsGranted}
 use Rattle.bundle_model.proofs.Laws.{no_place, passing_place}
+use Rattle.tile_core.proofs.Holding.{same_state}
+use Rattle.tile_core.proofs.Folding.{same_from}
 use Rattle.tile_core.proofs.Sites.{IsSite, loads_keyed, load_has, bundle_is}
 
 -- what passes at one place alone is found there
@@ -27,10 +27,6 @@ position_at test xs k x None is there passes alone = absurd (true≢false (sym p
 position_at test xs k x (Some j) is there passes alone =
     let at = passing_place test xs j is in
     ap (λ (n : ℕ). Some n) (alone j at.0 at.1 at.2)
-
-same_from : (one other : Label) → one ≡ other → same_label one other ≡ true
-same_from one other same =
-    and_from (one.session == other.session) (one.load == other.load) (eq-eqb one.session other.session (ap (λ (l : Label). l.session) same)) (eq-eqb one.load other.load (ap (λ (l : Label). l.load) same))
 
 -- the place of a load of the tile
 pub place_is : (world : World) (all : List LoadName) (grants : List Grant) (t : TileState) (place : ℕ) (load : LoadName) (label : Label) → IsSite world all t.loads grants t.number → slice_get t.loads place ≡ Some load → load.label ≡ label → load_place t label ≡ Some place
@@ -67,9 +63,6 @@ log_found world grants view t place label part h at is =
     ∙ slice_get-get_or t.logs place (new_log 0) logged.inside
     ∙ ap (λ (l : Log). Some l) logged.is
 
-same_state : (a b : Context) (bytes bytes' : List ℕ) (ports : List SizedPort) (log log' : Log) → a ≡ b → bytes ≡ bytes' → ports ≡ [] → log ≡ log' → (let s : PartState = record { regs = a.regs; left = a.left; bytes = bytes; ports = []; log = log } in s) ≡ (let s : PartState = record { regs = b.regs; left = b.left; bytes = bytes'; ports = ports; log = log' } in s)
-same_state a b bytes bytes' ports log log' p q n r = cc
-
 -- its state, where its grant stands
 pub state_found : (world : World) (grants : List Grant) (view : ℕ → PartState) (t : TileState) (place start : ℕ) (label : Label) (part : Part) → HoldsGranted world grants view t → load_place t label ≡ Some place → load_part world t place ≡ Some part → granted_from world grants t.at t place ≡ Some start → state_of world t label ≡ Some (view place)
 state_found world grants view t place start label part h at is begins =
@@ -77,7 +70,7 @@ state_found world grants view t place start label part h at is begins =
     let here = h.holds.here place part start is begins in
     let logged = h.holds.logs place part is in
     let installed : is_installed t place part ≡ true = ap (λ (o : Option ℕ). option_map_or (λ other. other == place) o false) placed.known ∙ eq-eqb place place refl in
-    let state : state_with t place part (words_at world t part) ≡ view place = same_state (words_at world t part) (words_of (view place)) _ (view place).bytes (view place).ports _ (view place).log here.words here.bytes here.ports logged.is in
+    let state : state_with t place part (words_at world t part) ≡ view place = same_state (words_at world t part) (words_of (view place)) _ (view place).bytes _ (view place).ports _ (view place).log here.words here.bytes here.ports logged.is in
     ap (option_and_then (state_at world t)) at
     ∙ ap (state_if world t place) is
     ∙ ap (λ b. cond b (Some (state_with t place part (words_at world t part))) None) installed

@@ -1,10 +1,9 @@
 -- A cycle of the tile: it holds the parts, each after its own cycle.
-use Rattle.std.proofs.Common.{◌≡◌, ◌≢◌, ℕ, ◌+◌, ◌*◌, ◌<◌, ◌≤◌, Bool, true, false, cond, ◌&&◌, ◌⊎◌, nat_lt, nat_le, List, [], get_or, slice_set, length, Option, Some, None, IfSome, refl, sym, subst, ap, ◌∙◌, inl, inr, arith}
+use Rattle.std.proofs.Common.{◌≡◌, ◌≢◌, ℕ, ◌+◌, ◌*◌, ◌<◌, ◌≤◌, Bool, true, false, cond, ◌&&◌, ◌⊎◌, nat_lt, nat_le, List, get_or, slice_set, length, Option, Some, None, IfSome, refl, sym, subst, ap, ◌∙◌, inl, inr, arith}
 use Rattle.std.proofs.lemmas.Bool.{cases_eq, cases_lt, eq-eqb, ne_eqb, lt-ltb, le-ltb, lt-leb}
 use Rattle.std.proofs.lemmas.List.{get_or-set_same, get_or-set_other, length-set}
 use Rattle.std.proofs.lemmas.Option.{same_Some}
 use Rattle.std.proofs.lemmas.Nat.{mod_below}
-use Rattle.soc_base.specs.declared.region.Region.{Region}
 use Rattle.soc_base.specs.Time.{FrameTimes, instance_at, offset_at, served_at, is_among, runs}
 use Rattle.platform_model.specs.declared.costs.Costs.{Costs}
 use Rattle.bundle_model.specs.declared.bundle.Part.{Part}
@@ -23,14 +22,15 @@ use Rattle.comik.specs.Table.{kernel_cycle}
 use Rattle.comik.specs.Switching.{IsSaved, InStep, Keeps, context_of, context_in}
 use Rattle.comik.specs.Turn.{InTurn, TurnOf}
 use Rattle.comik.proofs.Laws.{next_cycle, row_parts, held_is, of_held, whole_words, cycle_keeps, row_whole, row_still, whole_file, cycle_own, cycle_others, turn_cycle, held_runs}
-use Rattle.tile_core.proofs.Portless.{portless_cycle}
+use Rattle.tile_mmio.proofs.Laws.{own_put, others_own, length-own_ports, length-put_ports}
 use Rattle.tile_core.specs.Tile.{TileState, place_at, number_of}
 use Rattle.tile_core.specs.Cycle.{core_place, words_of, held_state, with_state, run_part, run_place, run_held, tile_cycle}
 use Rattle.tile_core.specs.Views.{view_step}
 use Rattle.tile_core.specs.Holds.{IsHere, IsLogged, Holds}
 use Rattle.tile_core.proofs.Installed.{IsOwner, owner_is, installed_same}
 use Rattle.tile_core.proofs.Frames.{region_stays}
-use Rattle.part_model.proofs.Laws.{cycle_size as bytes_kept}
+use Rattle.tile_core.proofs.Ports.{ArePartedParts, own_as}
+use Rattle.part_model.proofs.Laws.{cycle_size as bytes_kept, cycle_ports}
 use Rattle.tile_core.proofs.Shapes.{cycle_shape}
 
 -- no part runs in the microkernel's cycles
@@ -75,12 +75,13 @@ unmoved times parts granted starts view costs c t frame h same =
       turn = turn_cycle k starts c own_frame h.turn;
       installed = installed_same times.slots parts granted t (record t { kernel = after }) refl rows.owners h.installed;
       inside = h.inside;
+      own = h.own;
       here = λ place part start is begins.
           let one = h.here place part start is begins in
           record {
             words = keeps.contexts (number_of part) ∙ one.words ∙ ap words_of (sym (same place));
             bytes = one.bytes ∙ ap (λ (s : PartState). s.bytes) (sym (same place));
-            ports = ap (λ (s : PartState). s.ports) (same place) ∙ one.ports;
+            ports = one.ports ∙ ap (λ (s : PartState). s.ports) (sym (same place));
             start_is = one.start_is;
           };
       logs = λ place part is.
@@ -113,16 +114,13 @@ step_far : (held : Option ℕ) (file : Context) (frames : List Context) (later :
 step_far None file frames later far = tt
 step_far (Some part) file frames later far = record { saved = λ some early. elim far [ inl none ↦ absurd (omega arith) | inr high ↦ absurd (omega arith) ] }
 
-same_state : (a b : Context) (bytes bytes' : List ℕ) (ports : List SizedPort) (log log' : Log) → a ≡ b → bytes ≡ bytes' → ports ≡ [] → log ≡ log' → (let s : PartState = record { regs = a.regs; left = a.left; bytes = bytes; ports = []; log = log } in s) ≡ (let s : PartState = record { regs = b.regs; left = b.left; bytes = bytes'; ports = ports; log = log' } in s)
-same_state a b bytes bytes' ports log log' p q n r = cc
+-- states with the same words, bytes, ports and log
+pub same_state : (a b : Context) (bytes bytes' : List ℕ) (ports ports' : List SizedPort) (log log' : Log) → a ≡ b → bytes ≡ bytes' → ports ≡ ports' → log ≡ log' → (let s : PartState = record { regs = a.regs; left = a.left; bytes = bytes; ports = ports; log = log } in s) ≡ (let s : PartState = record { regs = b.regs; left = b.left; bytes = bytes'; ports = ports'; log = log' } in s)
+same_state a b bytes bytes' ports ports' log log' p q n r = cc
 
--- two regions share no byte
-abbrev pub ArePartedRegions : Region → Region → Type 0
-ArePartedRegions one other = (one.base + one.len ≤ other.base) ⊎ (other.base + other.len ≤ one.base)
-
--- installed parts share no byte
+-- installed parts share no byte and no port
 abbrev pub AreParted : (ℕ → Option Part) → (ℕ → Option ℕ) → Type 0
-AreParted parts granted = (i j : ℕ) (one other : Part) (s e : ℕ) → i ≢ j → parts i ≡ Some one → granted i ≡ Some s → parts j ≡ Some other → granted j ≡ Some e → ArePartedRegions one.region other.region
+AreParted parts granted = (i j : ℕ) (one other : Part) (s e : ℕ) → i ≢ j → parts i ≡ Some one → granted i ≡ Some s → parts j ≡ Some other → granted j ≡ Some e → ArePartedParts one other
 
 -- the part that is held has its cycle
 moved : (times : FrameTimes) (parts : ℕ → Option Part) (granted : ℕ → Option ℕ) (starts : ℕ → ℕ) (view : ℕ → PartState) (costs : Costs) (c : ℕ) (t : TileState) (p : ℕ) → IsFrame times → AreParted parts granted → Holds times parts granted starts view c t → times.kernel ≤ offset_at times c → t.kernel.held ≡ Some p → (l : IsOwner times.slots parts granted t p) → Holds times parts granted starts (views_after times costs c parts granted view) (c + 1) (with_state t l.place l.is.part (part_cycle costs (core_place l.is.part) c (held_state t l.place l.is.part)))
@@ -143,13 +141,14 @@ moved times parts granted starts view costs c t p frame parted h late held l =
     let P : Option ℕ → Type 0 = λ o. context_in o k.file k.frames (offset_at times c) p ≡ k.file in
     let now : context_of k (offset_at times c) p ≡ k.file = subst P (sym held) (of_held p k.file k.frames (offset_at times c) ∙ held_is (offset_at times c) k.file _ (inr (omega arith))) in
     sym now ∙ ap (context_of k (offset_at times c)) (sym l.is.number_is) ∙ one.words in
-    let same : state ≡ view i = same_state k.file (words_of (view i)) _ (view i).bytes (view i).ports _ (view i).log words one.bytes one.ports logged.is in
+    let same : state ≡ view i = same_state k.file (words_of (view i)) _ (view i).bytes _ (view i).ports _ (view i).log words one.bytes one.ports logged.is in
     let run : runs times (slots_of part.slots) start c ≡ true =
     sym (runs_is times parts granted starts view c t i part start frame h late l.is.part_is l.is.start_is)
     ∙ ap (has (number_of part)) held ∙ eq-eqb p (number_of part) (sym l.is.number_is) in
     let goes : next ≡ views i = ap (part_cycle costs (core_place part) c) same ∙ sym (view_goes times costs c (granted i) (parts i) (view i) start part l.is.start_is l.is.part_is run) in
     let fits : length next.bytes ≡ part.region.len = bytes_kept costs (core_place part) c state ∙ length-region_bytes t.memory part.region inside in
     let size : length (with_region t.memory part.region next.bytes) ≡ length t.memory = length-with_region t.memory part.region next.bytes inside fits in
+    let count : length next.ports ≡ length part.ports = (cycle_ports costs (core_place part) c state).count ∙ length-own_ports t.ports part.ports in
     let other_number : (place : ℕ) (q : Part) (s : ℕ) → place ≢ i → parts place ≡ Some q → granted place ≡ Some s → number_of q ≢ p = λ place q s apart is begins e.
     let there = h.installed.each place q s is begins in
     apart (same_Some place i (sym there.known ∙ ap (place_at t) e ∙ l.at_place)) in
@@ -161,15 +160,16 @@ moved times parts granted starts view costs c t p frame parted h late held l =
     let own : IsHere times starts (c + 1) after part start (views i) = record {
       words = ap (context_of after.kernel (offset_at times (c + 1))) l.is.number_is ∙ cycle_own k (words_of next) p (offset_at times (c + 1)) held far ∙ ap words_of goes;
       bytes = region-with_region t.memory part.region next.bytes inside fits ∙ ap (λ (s : PartState). s.bytes) goes;
-      ports = sym (ap (λ (s : PartState). s.ports) goes) ∙ portless_cycle costs (core_place part) c state refl;
+      ports = own_put t.ports part.ports next.ports (h.own i part l.is.part_is) count ∙ ap (λ (s : PartState). s.ports) goes;
       start_is = one.start_is;
     } in
     let others : (place : ℕ) (q : Part) (s : ℕ) → place ≢ i → parts place ≡ Some q → granted place ≡ Some s → IsHere times starts (c + 1) after q s (views place) = λ place q s apart is begins.
     let there = h.here place q s is begins in
+    let apart_parts = parted i place part q start s (λ e. apart (sym e)) l.is.part_is l.is.start_is is begins in
     record {
       words = cycle_others k (words_of next) p (number_of q) (offset_at times c) (offset_at times (c + 1)) held (other_number place q s apart is begins) ∙ there.words ∙ ap words_of (sym (other_view place apart));
-      bytes = region_stays t.memory part.region q.region next.bytes inside fits (parted i place part q start s (λ e. apart (sym e)) l.is.part_is l.is.start_is is begins) ∙ there.bytes ∙ ap (λ (x : PartState). x.bytes) (sym (other_view place apart));
-      ports = ap (λ (x : PartState). x.ports) (other_view place apart) ∙ there.ports;
+      bytes = region_stays t.memory part.region q.region next.bytes inside fits apart_parts.regions ∙ there.bytes ∙ ap (λ (x : PartState). x.bytes) (sym (other_view place apart));
+      ports = others_own t.ports part.ports next.ports q.ports apart_parts.ports ∙ there.ports ∙ ap (λ (x : PartState). x.ports) (sym (other_view place apart));
       start_is = there.start_is;
     } in
     record {
@@ -182,6 +182,7 @@ moved times parts granted starts view costs c t p frame parted h late held l =
           record { next_is = t2.next_is; held_is = t2.held_is; begun = t2.begun };
       installed = installed_same times.slots parts granted t after refl refl h.installed;
       inside = λ place q is. let in_old = h.inside place q is in omega arith;
+      own = λ place q is. own_as t.ports after.ports q.ports (length-put_ports t.ports part.ports next.ports) (h.own place q is);
       here = λ place q s is begins. elim (cases_eq place i) [
         | inl same_place ↦
             let P : ℕ → Type 0 = λ n. parts n ≡ Some q → granted n ≡ Some s → IsHere times starts (c + 1) after q s (views n) in

@@ -6,6 +6,7 @@ use Rattle.std.proofs.lemmas.Nat.Bits.{bit_at_above}
 use Rattle.std.proofs.lemmas.List.{get_or-set_same, get_or-set_other, get_or_past}
 use Rattle.std.proofs.lemmas.Option.{same_Some, none-some}
 use Rattle.bundle_model.specs.declared.bundle.Part.{Part}
+use Rattle.bundle_model.specs.declared.world.World.{World}
 use Rattle.comik.specs.Kernel.{AreFree, IsInstalled, owner_at, has, without}
 use Rattle.comik.specs.Parts.{prepared}
 use Rattle.comik.proofs.Laws.{claimed_at, freed_at, least_is_in, least_below, installed_apart, still_installed}
@@ -87,8 +88,8 @@ pub numbers_apart : (slots : ℕ) (t : TileState) (i j : ℕ) (one other : Part)
 numbers_apart slots t i j one other a b apart = λ same. apart (same_Some j i (sym b.known ∙ ap (place_at t) same ∙ a.known))
 
 -- a part leaves
-pub installed_removed : (slots : ℕ) (parts : ℕ → Option Part) (granted later : ℕ → Option ℕ) (t : TileState) (i : ℕ) (part : Part) (start : ℕ) → AreInstalled slots parts granted t → parts i ≡ Some part → granted i ≡ Some start → later i ≡ None → ((place : ℕ) → place ≢ i → later place ≡ granted place) → AreInstalled slots parts later (removed t part)
-installed_removed slots parts granted later t i part start h part_is start_is gone stay =
+pub installed_removed : (world : World) (slots : ℕ) (parts : ℕ → Option Part) (granted later : ℕ → Option ℕ) (t : TileState) (i : ℕ) (part : Part) (start : ℕ) → AreInstalled slots parts granted t → parts i ≡ Some part → granted i ≡ Some start → later i ≡ None → ((place : ℕ) → place ≢ i → later place ≡ granted place) → AreInstalled slots parts later (removed world t part)
+installed_removed world slots parts granted later t i part start h part_is start_is gone stay =
     let k = t.kernel in
     let p = number_of part in
     let one = h.each i part start part_is start_is in
@@ -148,8 +149,8 @@ nobody_has slots parts granted t place part slot (Some n) h room is =
     ne_eqb n (number_of part) (owner_apart slots parts granted t place part slot n h room is)
 
 -- a part comes
-pub installed_installed : (slots : ℕ) (parts : ℕ → Option Part) (granted later : ℕ → Option ℕ) (t : TileState) (i : ℕ) (part : Part) (start : ℕ) → AreInstalled slots parts granted t → IsFree slots parts granted t i part → later i ≡ Some start → ((place : ℕ) → place ≢ i → later place ≡ granted place) → AreInstalled slots parts later (installed t i part)
-installed_installed slots parts granted later t i part start h room now stay =
+pub installed_installed : (world : World) (slots : ℕ) (parts : ℕ → Option Part) (granted later : ℕ → Option ℕ) (t : TileState) (i : ℕ) (part : Part) (start : ℕ) → AreInstalled slots parts granted t → IsFree slots parts granted t i part → later i ≡ Some start → ((place : ℕ) → place ≢ i → later place ≡ granted place) → AreInstalled slots parts later (installed world t i part)
+installed_installed world slots parts granted later t i part start h room now stay =
     let k = t.kernel in
     let p = number_of part in
     let kernel = prepared k part.slots part.entry in
@@ -172,7 +173,7 @@ installed_installed slots parts granted later t i part start h room now stay =
       | inr left ↦ ap (λ b. has n (cond b (Some p) (owner_at k slot))) left
     ] in
     let bit_p : bit_at part.slots p ≡ 1 = least_is_in part.slots room.some room.fits in
-    let own : IsPlaced slots (installed t i part) i part = record {
+    let own : IsPlaced slots (installed world t i part) i part = record {
       known = get_or-set_same t.places p (Some i) None in_places;
       installed = claimed_at part.slots p k.owners p ∙ ap (λ b. cond (b && bit_at part.slots p == 1) (Some p) (owner_at k p)) (in_owners p low_p) ∙ ap (λ b. cond b (Some p) (owner_at k p)) (eq-eqb (bit_at part.slots p) 1 bit_p);
       owns = own_owns;
@@ -181,7 +182,7 @@ installed_installed slots parts granted later t i part start h room now stay =
       each = λ place q s is begins. elim (cases_eq place i) [
         | inl same ↦
             let q_is : part ≡ q = same_Some part q (sym room.part_is ∙ ap parts (sym same) ∙ is) in
-            subst (λ (x : Part). IsPlaced slots (installed t i part) place x) q_is (subst (λ (n : ℕ). IsPlaced slots (installed t i part) n part) (sym same) own)
+            subst (λ (x : Part). IsPlaced slots (installed world t i part) place x) q_is (subst (λ (n : ℕ). IsPlaced slots (installed world t i part) n part) (sym same) own)
         | inr apart ↦
             let there = h.each place q s is (sym (stay place apart) ∙ begins) in
             let n = number_of q in
@@ -203,7 +204,7 @@ installed_installed slots parts granted later t i part start h room now stay =
       owned = λ slot number is. elim (cases_Bool (nat_lt slot (length k.owners) && bit_at part.slots slot == 1)) [
         | inl taken ↦
             let number_is : p ≡ number = same_Some p number (sym (ap (λ b. cond b (Some p) (owner_at k slot)) taken) ∙ sym (claimed_at part.slots p k.owners slot) ∙ is) in
-            subst (λ (o : Option ℕ). IsSome o) (sym (ap (place_at (installed t i part)) (sym number_is) ∙ get_or-set_same t.places p (Some i) None in_places)) refl
+            subst (λ (o : Option ℕ). IsSome o) (sym (ap (place_at (installed world t i part)) (sym number_is) ∙ get_or-set_same t.places p (Some i) None in_places)) refl
         | inr left ↦
             let was : owner_at k slot ≡ Some number = sym (ap (λ b. cond b (Some p) (owner_at k slot)) left) ∙ sym (claimed_at part.slots p k.owners slot) ∙ is in
             let differs = owner_apart slots parts granted t i part slot number h room was in

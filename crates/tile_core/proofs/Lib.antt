@@ -1,8 +1,11 @@
-mod Portless
+pub mod Queues
+pub mod Counts
+pub mod Resets
 pub mod Memory
 pub mod Installed
 pub mod Frames
 pub mod Shapes
+pub mod Ports
 pub mod Holding
 pub mod Coming
 pub mod Going
@@ -11,13 +14,18 @@ pub mod Sites
 pub mod Folding
 pub mod Rooms
 pub mod Starting
-pub mod Turns
 pub mod Settling
 pub mod Made
+pub mod SlotMade
+pub mod FreshMade
+pub mod Exchanges
+pub mod Viewing
 pub mod Slots
 pub mod Fresh
 pub mod Found
+pub mod Paced
 pub mod Laws
 pub mod Stretches
 pub mod Ready
+pub mod Able
 mod Pairs

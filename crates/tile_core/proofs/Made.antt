@@ -1,5 +1,5 @@
--- What a tile was made for stays: in a part that leaves or comes, in a cycle, and in a slot.
-use Rattle.std.proofs.Common.{◌≡◌, ℕ, zero, suc, ◌+◌, ◌*◌, ◌≤◌, Bool, true, false, cond, nat_lt, List, [], ◌∷◌, filter, fold, length, slice_get, Option, Some, None, option_and_then, refl, sym, subst, ap, ap₂, ◌∙◌, arith}
+-- What a tile was made for stays: in a part that leaves or comes, and in a cycle.
+use Rattle.std.proofs.Common.{◌≡◌, ℕ, zero, suc, ◌+◌, ◌*◌, ◌≤◌, Bool, true, false, cond, nat_lt, List, [], ◌∷◌, filter, fold, length, map, slice_get, Option, Some, None, option_and_then, refl, sym, subst, ap, ap₂, ◌∙◌, All, arith}
 use Rattle.std.proofs.lemmas.List.{length-map, length-set}
 use Rattle.soc_base.specs.Frame.{IsFrame}
 use Rattle.soc_base.specs.Steps.{after_steps}
@@ -20,11 +20,15 @@ use Rattle.comik.specs.Kernel.{without}
 use Rattle.comik.specs.Table.{kernel_cycle}
 use Rattle.comik.proofs.Laws.{row_parts, length_claimed}
 use Rattle.std.proofs.lemmas.Option.{option_and_then_some}
-use Rattle.tile_core.specs.Tile.{TileState, number_of, place_at, load_part, load_place, loads_on}
+use Rattle.tile_core.specs.Tile.{TileState, number_of, place_at, load_part, load_place, loads_on, free_sized}
 use Rattle.tile_core.specs.Cycle.{core_place, held_state, with_state, run_part, run_place, run_held, tile_cycle}
-use Rattle.tile_core.specs.Slot.{ends_in, begins_in, removed_if, after_end, with_ends, installed, installed_if, installed_at, after_start, with_starts, with_cycles, tile_slot}
+use Rattle.tile_core.specs.Slot.{ends_in, begins_in, with_each, removed_if, after_end, with_ends, installed, installed_if, installed_at, after_start, with_starts}
 use Rattle.tile_core.specs.Fit.{IsMadeFor}
-use Rattle.part_model.proofs.Laws.{cycle_size as bytes_kept}
+use Rattle.ni_port.specs.SizedPort.{SizedPort, granted_sized}
+use Rattle.tile_mmio.specs.Ports.{own_ports, put_ports, AreOwn}
+use Rattle.tile_mmio.proofs.Laws.{length-put_ports}
+use Rattle.part_model.proofs.Laws.{AreSamePorts, cycle_ports, cycle_size as bytes_kept}
+use Rattle.tile_core.proofs.Queues.{queues_of, AreSized, same_queues, sized_as, same_count, sized_put, sized_each, sized_own, sized_ran, part_own}
 
 -- the frame of a platform
 pub frame_is : (world : World) → IsFrame (frame_of world.platform)
@@ -51,7 +55,7 @@ load_part_inside world loads t place part sound made is =
     let within = s.in_memory in
     omega arith
 
--- a tile of the same number, loads, frame, owners and sizes
+-- a tile of the same number, loads, frame, owners, sizes and counts
 pub record IsAlike (t after : TileState) : Type 0 where
   pub number : after.number ≡ t.number
   pub at : after.at ≡ t.at
@@ -61,9 +65,11 @@ pub record IsAlike (t after : TileState) : Type 0 where
   pub places : length after.places ≡ length t.places
   pub loads : after.loads ≡ t.loads
   pub logs : length after.logs ≡ length t.logs
+  pub ports : queues_of after.ports ≡ queues_of t.ports
+  pub carried : after.carried ≡ t.carried
 
 pub alike_same : (t : TileState) → IsAlike t t
-alike_same t = record { number = refl; at = refl; frame = refl; owners = refl; size = refl; places = refl; loads = refl; logs = refl }
+alike_same t = record { number = refl; at = refl; frame = refl; owners = refl; size = refl; places = refl; loads = refl; logs = refl; ports = refl; carried = refl }
 
 pub alike_more : (a b c : TileState) → IsAlike a b → IsAlike b c → IsAlike a c
 alike_more a b c p q = record {
@@ -75,7 +81,15 @@ alike_more a b c p q = record {
   places = q.places ∙ p.places;
   loads = q.loads ∙ p.loads;
   logs = q.logs ∙ p.logs;
+  ports = q.ports ∙ p.ports;
+  carried = q.carried ∙ p.carried;
 }
+
+counts_as : (at later : ℕ) (counts after : List ℕ) → at ≡ later → counts ≡ after → All (λ count. count ≤ at) counts → All (λ count. count ≤ later) after
+counts_as at later counts after same are within =
+    let P : ℕ → Type 0 = λ n. All (λ count. count ≤ n) counts in
+    let Q : List ℕ → Type 0 = λ xs. All (λ count. count ≤ later) xs in
+    subst Q are (subst P same within)
 
 -- it was made for what the other was
 pub made_alike : (world : World) (loads : List LoadName) (t after : TileState) → IsAlike t after → IsMadeFor world loads t → IsMadeFor world loads after
@@ -87,6 +101,10 @@ made_alike world loads t after same made = record {
   places = same.places ∙ made.places;
   its_loads = same.loads ∙ made.its_loads ∙ ap (λ (n : ℕ). loads_on world n loads) (sym same.number);
   logs = same.logs ∙ made.logs ∙ ap (λ (xs : List LoadName). length xs) (sym same.loads);
+  ports = same_count t.ports after.ports same.ports ∙ made.ports;
+  queues = sized_as world.platform.queue t.ports after.ports same.ports made.queues;
+  outputs = ap (λ (counts : List ℕ). length counts) same.carried ∙ made.outputs;
+  counts = counts_as t.at after.at t.carried after.carried (sym same.at) (sym same.carried) made.counts;
 }
 
 -- and its loads have the same parts
@@ -95,9 +113,17 @@ parts_alike world t after same =
     let parts : ℕ → List LoadName → ℕ → Option Part = λ n xs place. option_and_then (λ (load : LoadName). part_on world n load.bundle) (slice_get xs place) in
     ap₂ parts same.number same.loads
 
-removed_alike : (t : TileState) (part : Option Part) → IsAlike t (removed_if t part)
-removed_alike t None = alike_same t
-removed_alike t (Some part) = record {
+-- ports that are put in the places of a part's, all of the platform's size
+each_queues : (world : World) (loads : List LoadName) (t : TileState) (port : SizedPort) (numbers : List ℕ) → IsMadeFor world loads t → port.queue ≡ world.platform.queue → queues_of (with_each port numbers t.ports) ≡ queues_of t.ports
+each_queues world loads t port numbers made size =
+    let own = map (λ number. port) numbers in
+    let P : ℕ → Type 0 = λ queue. AreSized queue own in
+    same_queues world.platform.queue t.ports (put_ports t.ports numbers own) (length-put_ports t.ports numbers own) made.queues
+    (sized_put world.platform.queue t.ports numbers own made.queues (subst P size (sized_each port numbers)))
+
+removed_alike : (world : World) (loads : List LoadName) (t : TileState) (part : Option Part) → IsMadeFor world loads t → IsAlike t (removed_if world t part)
+removed_alike world loads t None made = alike_same t
+removed_alike world loads t (Some part) made = record {
   number = refl;
   at = refl;
   frame = refl;
@@ -106,18 +132,22 @@ removed_alike t (Some part) = record {
   places = length-set t.places (number_of part) None;
   loads = refl;
   logs = refl;
+  ports = each_queues world loads t (free_sized world.platform.queue) part.ports made refl;
+  carried = refl;
 }
 
-pub end_alike : (world : World) (t : TileState) (grant : Grant) → IsAlike t (after_end world t grant)
-end_alike world t grant = removed_alike t (option_and_then (load_part world t) (load_place t grant.label))
+pub end_alike : (world : World) (loads : List LoadName) (t : TileState) (grant : Grant) → IsMadeFor world loads t → IsAlike t (after_end world t grant)
+end_alike world loads t grant made = removed_alike world loads t (option_and_then (load_part world t) (load_place t grant.label)) made
 
-pub ends_alike : (world : World) (grants : List Grant) (t : TileState) → IsAlike t (fold (after_end world) t grants)
-ends_alike world [] t = alike_same t
-ends_alike world (grant ∷ grants) t =
-    alike_more t (after_end world t grant) (fold (after_end world) (after_end world t grant) grants) (end_alike world t grant) (ends_alike world grants (after_end world t grant))
+pub ends_alike : (world : World) (loads : List LoadName) (grants : List Grant) (t : TileState) → IsMadeFor world loads t → IsAlike t (fold (after_end world) t grants)
+ends_alike world loads [] t made = alike_same t
+ends_alike world loads (grant ∷ grants) t made =
+    let one = end_alike world loads t grant made in
+    alike_more t (after_end world t grant) (fold (after_end world) (after_end world t grant) grants) one
+    (ends_alike world loads grants (after_end world t grant) (made_alike world loads t (after_end world t grant) one made))
 
-pub installed_alike : (t : TileState) (place : ℕ) (part : Part) → IsInside t.memory part.region → 4 * length part.image ≤ part.region.len → IsAlike t (installed t place part)
-installed_alike t place part inside fits = record {
+pub installed_alike : (world : World) (loads : List LoadName) (t : TileState) (place : ℕ) (part : Part) → IsMadeFor world loads t → IsInside t.memory part.region → 4 * length part.image ≤ part.region.len → IsAlike t (installed world t place part)
+installed_alike world loads t place part made inside fits = record {
   number = refl;
   at = refl;
   frame = refl;
@@ -126,12 +156,14 @@ installed_alike t place part inside fits = record {
   places = length-set t.places (number_of part) (Some place);
   loads = refl;
   logs = refl;
+  ports = each_queues world loads t (granted_sized world.platform.queue) part.ports made refl;
+  carried = refl;
 }
 
-come_alike : (world : World) (loads : List LoadName) (t : TileState) (place : ℕ) (part : Option Part) → IsSoundCatalog world → IsMadeFor world loads t → load_part world t place ≡ part → IsAlike t (installed_if t place part)
+come_alike : (world : World) (loads : List LoadName) (t : TileState) (place : ℕ) (part : Option Part) → IsSoundCatalog world → IsMadeFor world loads t → load_part world t place ≡ part → IsAlike t (installed_if world t place part)
 come_alike world loads t place None sound made is = alike_same t
 come_alike world loads t place (Some part) sound made is =
-    installed_alike t place part (load_part_inside world loads t place part sound made is) (load_part_sound world t place part sound is).image_fits
+    installed_alike world loads t place part made (load_part_inside world loads t place part sound made is) (load_part_sound world t place part sound is).image_fits
 
 come_at : (world : World) (loads : List LoadName) (t : TileState) (place : Option ℕ) → IsSoundCatalog world → IsMadeFor world loads t → IsAlike t (installed_at world t place)
 come_at world loads t None sound made = alike_same t
@@ -147,21 +179,22 @@ starts_alike world loads (grant ∷ grants) t sound made =
     alike_more t (after_start world t grant) (fold (after_start world) (after_start world t grant) grants) one
     (starts_alike world loads grants (after_start world t grant) sound (made_alike world loads t (after_start world t grant) one made))
 
--- a tile with the same places and owners besides
+-- a tile with the same places, owners and slot tables besides
 pub record IsKept (t after : TileState) : Type 0 where
   pub alike : IsAlike t after
   pub places : after.places ≡ t.places
   pub owners : after.kernel.owners ≡ t.kernel.owners
+  pub tables : after.tables ≡ t.tables
 
-kept_same : (t : TileState) → IsKept t t
-kept_same t = record { alike = alike_same t; places = refl; owners = refl }
+pub kept_same : (t : TileState) → IsKept t t
+kept_same t = record { alike = alike_same t; places = refl; owners = refl; tables = refl }
 
 pub kept_more : (a b c : TileState) → IsKept a b → IsKept b c → IsKept a c
-kept_more a b c p q = record { alike = alike_more a b c p.alike q.alike; places = q.places ∙ p.places; owners = q.owners ∙ p.owners }
+kept_more a b c p q = record { alike = alike_more a b c p.alike q.alike; places = q.places ∙ p.places; owners = q.owners ∙ p.owners; tables = q.tables ∙ p.tables }
 
 -- the part that is held came to a state
-pub state_kept : (t : TileState) (place : ℕ) (part : Part) (state : PartState) → IsInside t.memory part.region → length state.bytes ≡ part.region.len → IsKept t (with_state t place part state)
-state_kept t place part state inside fits = record {
+pub state_kept : (t : TileState) (place : ℕ) (part : Part) (state : PartState) → IsInside t.memory part.region → length state.bytes ≡ part.region.len → queues_of (put_ports t.ports part.ports state.ports) ≡ queues_of t.ports → IsKept t (with_state t place part state)
+state_kept t place part state inside fits queues = record {
   alike = record {
     number = refl;
     at = refl;
@@ -171,17 +204,33 @@ state_kept t place part state inside fits = record {
     places = refl;
     loads = refl;
     logs = length-set t.logs place state.log;
+    ports = queues;
+    carried = refl;
   };
   places = refl;
   owners = refl;
+  tables = refl;
 }
+
+-- the ports of a part on a tile are its own
+pub load_part_own : (world : World) (loads : List LoadName) (t : TileState) (place : ℕ) (part : Part) → IsSoundCatalog world → IsMadeFor world loads t → load_part world t place ≡ Some part → AreOwn t.ports part.ports
+load_part_own world loads t place part sound made is = part_own world.platform part t.ports (load_part_sound world t place part sound is) made.ports
+
+-- a part's ports after its cycles have the sizes that they had
+cycle_queues : (world : World) (loads : List LoadName) (t : TileState) (numbers : List ℕ) (after : List SizedPort) → IsMadeFor world loads t → AreOwn t.ports numbers → AreSamePorts (own_ports t.ports numbers) after → queues_of (put_ports t.ports numbers after) ≡ queues_of t.ports
+cycle_queues world loads t numbers after made own same =
+    let queue = world.platform.queue in
+    same_queues queue t.ports (put_ports t.ports numbers after) (length-put_ports t.ports numbers after) made.queues
+    (sized_put queue t.ports numbers after made.queues (sized_ran queue (own_ports t.ports numbers) after same (sized_own queue t.ports numbers made.queues own.within)))
 
 of_part : (world : World) (loads : List LoadName) (costs : Costs) (c : ℕ) (t : TileState) (place : ℕ) (part : Option Part) → IsSoundCatalog world → IsMadeFor world loads t → load_part world t place ≡ part → IsKept t (run_part costs c t place part)
 of_part world loads costs c t place None sound made is = kept_same t
 of_part world loads costs c t place (Some part) sound made is =
     let inside = load_part_inside world loads t place part sound made is in
-    state_kept t place part (part_cycle costs (core_place part) c (held_state t place part)) inside
-    (bytes_kept costs (core_place part) c (held_state t place part) ∙ length-region_bytes t.memory part.region inside)
+    let state = held_state t place part in
+    let after = part_cycle costs (core_place part) c state in
+    state_kept t place part after inside (bytes_kept costs (core_place part) c state ∙ length-region_bytes t.memory part.region inside)
+    (cycle_queues world loads t part.ports after.ports made (load_part_own world loads t place part sound made is) (cycle_ports costs (core_place part) c state))
 
 of_place : (world : World) (loads : List LoadName) (costs : Costs) (c : ℕ) (t : TileState) (place : Option ℕ) → IsSoundCatalog world → IsMadeFor world loads t → IsKept t (run_place (load_part world t) costs c t place)
 of_place world loads costs c t None sound made = kept_same t
@@ -195,9 +244,10 @@ of_kernel : (t : TileState) (c : ℕ) → IsKept t (record t { kernel = kernel_c
 of_kernel t c =
     let rows = row_parts t.kernel (served_at t.kernel.times c) (offset_at t.kernel.times c) in
     record {
-      alike = record { number = refl; at = refl; frame = rows.times; owners = ap (λ (os : List (Option ℕ)). length os) rows.owners; size = refl; places = refl; loads = refl; logs = refl };
+      alike = record { number = refl; at = refl; frame = rows.times; owners = ap (λ (os : List (Option ℕ)). length os) rows.owners; size = refl; places = refl; loads = refl; logs = refl; ports = refl; carried = refl };
       places = refl;
       owners = rows.owners;
+      tables = refl;
     }
 
 pub cycle_kept : (world : World) (loads : List LoadName) (costs : Costs) (c : ℕ) (t : TileState) → IsSoundCatalog world → IsMadeFor world loads t → IsKept t (tile_cycle (load_part world t) costs c t)
@@ -218,29 +268,14 @@ cycles_kept world loads costs c (suc n) t sound made =
     let P : (ℕ → Option Part) → Type 0 = λ parts. IsKept before (tile_cycle parts costs (c + n) before) in
     kept_more t before (tile_cycle (load_part world t) costs (c + n) before) so_far (subst P (parts_alike world t before so_far.alike) one)
 
--- a slot: all but its number stays
-pub ended_alike : (world : World) (grants : List Grant) (t : TileState) → IsAlike t (with_ends world grants t)
-ended_alike world grants t = ends_alike world (filter (ends_in t.at) grants) t
+-- the parts of a slot's grants
+pub ended_alike : (world : World) (loads : List LoadName) (grants : List Grant) (t : TileState) → IsMadeFor world loads t → IsAlike t (with_ends world grants t)
+ended_alike world loads grants t made = ends_alike world loads (filter (ends_in t.at) grants) t made
 
 pub begun_alike : (world : World) (loads : List LoadName) (grants : List Grant) (t : TileState) → IsSoundCatalog world → IsMadeFor world loads t → IsAlike t (with_starts world grants t)
 begun_alike world loads grants t sound made = starts_alike world loads (filter (begins_in t.at) grants) t sound made
 
 pub settled_alike : (world : World) (loads : List LoadName) (grants : List Grant) (t : TileState) → IsSoundCatalog world → IsMadeFor world loads t → IsAlike t (with_starts world grants (with_ends world grants t))
 settled_alike world loads grants t sound made =
-    let one = ended_alike world grants t in
+    let one = ended_alike world loads grants t made in
     alike_more t (with_ends world grants t) (with_starts world grants (with_ends world grants t)) one (begun_alike world loads grants (with_ends world grants t) sound (made_alike world loads t (with_ends world grants t) one made))
-
-pub slot_made : (world : World) (loads : List LoadName) (grants : List Grant) (t : TileState) → IsSoundCatalog world → IsMadeFor world loads t → IsMadeFor world loads (tile_slot world grants t)
-unfolding tile_slot
-slot_made world loads grants t sound made =
-    let settled = with_starts world grants (with_ends world grants t) in
-    let one = settled_alike world loads grants t sound made in
-    let then = made_alike world loads t settled one made in
-    let two = cycles_kept world loads world.platform.costs (settled.at * world.platform.slot_cycles) world.platform.slot_cycles settled sound then in
-    let done = made_alike world loads settled (with_cycles world settled) two.alike then in
-    record { number = done.number; frame = done.frame; owners = done.owners; size = done.size; places = done.places; its_loads = done.its_loads; logs = done.logs }
-
--- the slot after is next
-pub slot_at : (world : World) (grants : List Grant) (t : TileState) → (tile_slot world grants t).at ≡ t.at + 1
-unfolding tile_slot
-slot_at world grants t = refl

@@ -1,9 +1,12 @@
--- What a tile's memory is after its parts changed their regions.
+-- What a tile's memory and its ports are after a part changed its own.
 use Rattle.std.proofs.Common.{◌≡◌, ℕ, ◌+◌, ◌*◌, ◌≤◌, List, ◌++◌, length, take, drop, sym, ap, ◌∙◌}
 use Rattle.std.proofs.lemmas.List.{take-append-drop, drop-drop}
 use Rattle.soc_base.specs.declared.region.Region.{Region}
 use Rattle.tile_memory.specs.Bytes.{IsInside, region_bytes, with_region, filled_bytes}
 use Rattle.tile_memory.proofs.Laws.{length-with_region, length-filled_bytes}
+use Rattle.ni_port.specs.SizedPort.{SizedPort}
+use Rattle.tile_mmio.specs.Ports.{own_ports, put_ports, other_ports}
+use Rattle.tile_mmio.proofs.Laws.{ports_after}
 
 -- a memory that is filled keeps its size
 pub filled_kept : (memory new image : List ℕ) (region : Region) → IsInside memory region → 4 * length image ≤ region.len → new ≡ with_region memory region (filled_bytes region.len image) → length new ≡ length memory
@@ -18,3 +21,8 @@ joined_region memory new bytes region inner before after =
     let whole : new ≡ take region.base new ++ (region_bytes new region ++ drop (region.base + region.len) new) =
     sym (take-append-drop region.base new) ∙ ap (λ xs. take region.base new ++ xs) behind in
     cc
+
+-- a tile's ports, of which those of no part changed but the own ones
+pub joined_ports : (before after own : List SizedPort) (numbers : List ℕ) → own_ports after numbers ≡ own → other_ports after numbers ≡ other_ports before numbers → after ≡ put_ports before numbers own
+joined_ports before after own numbers inner others =
+    ports_after before after numbers others ∙ ap (put_ports before numbers) inner

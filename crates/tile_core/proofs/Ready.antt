@@ -1,33 +1,24 @@
 -- What the steps of a slot find.
-use Rattle.std.proofs.Common.{◌≡◌, ℕ, zero, suc, ◌+◌, ◌*◌, ◌^◌, ◌<◌, Bool, true, false, cond, not, ◌&&◌, List, [], ◌∷◌, filter, fold, get_or, length, position, slice_get, take, Option, Some, None, refl, sym, subst, ap, ◌∙◌, arith}
+use Rattle.std.proofs.Common.{◌≡◌, ℕ, ◌+◌, ◌<◌, ◌^◌, Bool, true, cond, not, ◌&&◌, List, [], ◌∷◌, filter, fold, length, get_or, Some, All, refl, sym, subst, ap, ap₂, ◌∙◌, arith}
 use Rattle.std.specs.List.{list_all}
 use Rattle.std.proofs.lemmas.Bool.{and_parts, not-true}
-use Rattle.std.proofs.lemmas.Option.{none-some, same_Some, slice_get-get_or, get_or_from_slice_get}
 use Rattle.tile_memory.specs.Bytes.{IsInside}
 use Rattle.bundle_model.specs.declared.bundle.Part.{Part}
 use Rattle.bundle_model.specs.declared.world.World.{World}
-use Rattle.bundle_model.specs.declared.world.LoadName.{LoadName}
 use Rattle.bundle_model.specs.declared.world.Grant.{Grant}
 use Rattle.bundle_model.specs.declared.world.Schedule.{Schedule}
-use Rattle.bundle_model.specs.World.{same_label}
-use Rattle.bundle_model.proofs.Laws.{keyed_pairs}
-use Rattle.rv_core.specs.Registers.{fresh_registers}
-use Rattle.trace_log.specs.Log.{new_log}
-use Rattle.part_model.specs.Part.{PartState}
-use Rattle.tile_core.specs.Tile.{TileState, number_of, load_part, load_place}
-use Rattle.tile_core.specs.Slot.{ends_in, begins_in, after_end, with_ends, after_start, with_starts}
-use Rattle.tile_core.specs.Fit.{AreInstalled, IsUnderway}
-use Rattle.tile_core.specs.inner.Ready.{IsSoundTile, CanCome, CanEnd, CanBegin, HasEnded}
-use Rattle.tile_core.proofs.Installed.{read_inside, number_inside}
+use Rattle.tdm_network.specs.declared.rows.Row.{Row}
+use Rattle.tile_mmio.specs.Ports.{AreOwn}
+use Rattle.tdm_network.specs.Rows.{removed as left}
+use Rattle.grant_tables.specs.Entries.{grant_entries}
+use Rattle.grant_tables.specs.Tables.{with_entries, tables_after, AreTabled}
+use Rattle.tile_core.specs.Tile.{TileState, load_part}
+use Rattle.tile_core.specs.Slot.{ends_in, begins_in, after_end, with_ends, after_start, with_starts, with_tables, with_grants, with_injection, with_cycles}
+use Rattle.tile_core.specs.Fit.{IsUnderway}
+use Rattle.tile_core.specs.inner.Ready.{IsSoundTile, HasEnded}
 use Rattle.tile_core.proofs.Stretches.{fine_parts}
-use Rattle.tile_core.proofs.Standing.{AreLabelled, untouched}
-use Rattle.tile_core.proofs.Sites.{site_granted, loads_keyed}
-use Rattle.tile_core.proofs.Folding.{parts_are, touches, AreThere, at_place_of, fold_out}
-use Rattle.tile_core.proofs.Rooms.{room_is}
-use Rattle.tile_core.proofs.Starting.{AreStarts, fold_in}
-use Rattle.tile_core.proofs.Settling.{goes_installed, have_parts, ends_there, granted_mid, mid_stands, mid_starts, ended}
-use Rattle.tile_core.proofs.Slots.{site_of, tile_of}
-use Rattle.tile_core.proofs.Made.{alike_more, made_alike, load_part_inside, ended_alike, starts_alike, settled_alike}
+use Rattle.tile_core.proofs.Made.{made_alike, settled_alike}
+use Rattle.tile_core.proofs.SlotMade.{settled_tables, granted_alike, injected_kept, active_kept}
 
 pub held_inside : (world : World) (t : TileState) (place : ℕ) (part : Part) → IsSoundTile world t → load_part world t place ≡ Some part → IsInside t.memory part.region
 held_inside world t place part tile is = (fine_parts world tile.loads t tile.sound.catalog tile.made place part is).0
@@ -35,106 +26,8 @@ held_inside world t place part tile is = (fine_parts world tile.loads t tile.sou
 pub held_logged : (world : World) (t : TileState) (place : ℕ) (part : Part) → IsSoundTile world t → load_part world t place ≡ Some part → place < length t.logs
 held_logged world t place part tile is = (fine_parts world tile.loads t tile.sound.catalog tile.made place part is).1
 
--- an item of a front
-taken : {X : Type 0} (i : ℕ) (xs : List X) (k : ℕ) (x : X) → slice_get (take i xs) k ≡ Some x → (slice_get xs k ≡ Some x) × (k < i)
-taken zero xs k x there = absurd (none-some x there)
-taken (suc i) [] k x there = absurd (none-some x there)
-taken (suc i) (y ∷ xs) zero x there = (there, omega arith)
-taken (suc i) (y ∷ xs) (suc k) x there =
-    let rest = taken i xs k x there in
-    (rest.0, let low = rest.1 in omega arith)
-
--- the grants before one are of other loads
-front_labelled : (grants : List Grant) (i : ℕ) → AreLabelled grants → AreLabelled (take i grants)
-front_labelled grants i labelled = λ a b d below inside same.
-    let keyed = keyed_pairs (λ (g : Grant). g.label) grants labelled in
-    let one = taken i grants a (get_or (take i grants) a d) (slice_get-get_or (take i grants) a d (omega arith)) in
-    let other = taken i grants b (get_or (take i grants) b d) (slice_get-get_or (take i grants) b d inside) in
-    let is : a ≡ b = keyed a b (get_or (take i grants) a d) (get_or (take i grants) b d) one.0 other.0 same in
-    omega arith
-
-front_untouched : (p : Grant → Bool) (grants : List Grant) (i : ℕ) (grant : Grant) (load : LoadName) → AreLabelled grants → slice_get grants i ≡ Some grant → grant.label ≡ load.label → touches p (take i grants) (Some load) ≡ false
-front_untouched p grants i grant load labelled there same =
-    let keyed = keyed_pairs (λ (g : Grant). g.label) grants labelled in
-    untouched p load.label (take i grants) (λ k d inside equal.
-    let one = taken i grants k (get_or (take i grants) k d) (slice_get-get_or (take i grants) k d inside) in
-    let is : k ≡ i = keyed k i (get_or (take i grants) k d) grant one.0 there (sym equal ∙ sym same) in
-    let low = one.1 in
-    omega arith)
-
-nothing : ℕ → PartState
-nothing place = record { regs = fresh_registers 0; left = 0; bytes = []; ports = []; log = new_log 0 }
-
--- the part of a grant that ends in the slot can leave, once those before it have
-pub end_ready : (world : World) (schedule : Schedule) (t : TileState) (i : ℕ) (grant : Grant) → IsUnderway world schedule t → i < length schedule.grants.items → grant ≡ get_or schedule.grants.items i grant → ends_in t.at grant ≡ true → CanEnd world (fold (after_end world) t (filter (ends_in t.at) (take i schedule.grants.items))) grant
-end_ready world schedule t i grant u inside is ends place part at_place part_is =
-    let grants = schedule.grants.items in
-    let slots = world.platform.partition_slots in
-    let site = site_of world u.loads grants t u.sound u.apart u.of_loads u.made in
-    let keyed = loads_keyed world u.loads t.loads grants t.number site in
-    let front = take i grants in
-    let there : slice_get grants i ≡ Some grant = slice_get-get_or grants i grant inside ∙ ap (λ (g : Grant). Some g) (sym is) in
-    let R : (ℕ → Option ℕ) → (ℕ → PartState) → TileState → Type 0 = λ granted view s. AreInstalled slots (load_part world t) granted s in
-    let so_far : AreThere (ends_in t.at) front t.loads (site_granted world grants t.at t.loads) = λ k g place load at_k. ends_there world u.loads t.loads grants t.number t.at site k g place load (taken i grants k g at_k).0 in
-    let done = fold_out world t.number t.at t.loads slots 0 R (goes_installed slots (load_part world t) 0) keyed (have_parts world u.loads t.loads grants t.number site) (ends_in t.at) front (site_granted world grants t.at t.loads) nothing t (front_labelled grants i u.apart.labelled) (tile_of world u.loads t u.made) so_far u.fits in
-    let s = fold (after_end world) t (filter (ends_in t.at) front) in
-    let its_part : load_part world t place ≡ Some part = sym (parts_are world t.number t.at t.loads slots s place done.1) ∙ part_is in
-    let found : position (λ (load : LoadName). same_label load.label grant.label) t.loads ≡ Some place = ap (position (λ (load : LoadName). same_label load.label grant.label)) (sym done.1.loads_are) ∙ at_place in
-    let at = at_place_of (load_part world t) t.loads grant place (have_parts world u.loads t.loads grants t.number site) found in
-    let start = ends_there world u.loads t.loads grants t.number t.at site i grant place at.load there ends at.there at.label in
-    let first : touches (ends_in t.at) front (slice_get t.loads place) ≡ false = ap (touches (ends_in t.at) front) at.there ∙ front_untouched (ends_in t.at) grants i grant at.load u.apart.labelled there at.label in
-    let placed = done.0.each place part start.0 its_part (ap (λ b. cond b None (site_granted world grants t.at t.loads place)) first ∙ start.1) in
-    record { installed = placed.installed; numbered = read_inside s.places (number_of part) place placed.known }
-
--- the part of a grant that begins in the slot can come, once those before it have
-pub begin_ready : (world : World) (schedule : Schedule) (t : TileState) (i : ℕ) (grant : Grant) → HasEnded world schedule t → i < length schedule.grants.items → grant ≡ get_or schedule.grants.items i grant → begins_in t.at grant ≡ true → CanBegin world (fold (after_start world) t (filter (begins_in t.at) (take i schedule.grants.items))) grant
-begin_ready world schedule t i grant h inside is begins =
-    let P : TileState → Type 0 = λ t. begins_in t.at grant ≡ true → CanBegin world (fold (after_start world) t (filter (begins_in t.at) (take i schedule.grants.items))) grant in
-    subst P (sym h.is) (begin_after world schedule h.before i grant h.underway inside is) begins
-  where
-    begin_after : (world : World) (schedule : Schedule) (b : TileState) (i : ℕ) (grant : Grant) → IsUnderway world schedule b → i < length schedule.grants.items → grant ≡ get_or schedule.grants.items i grant → (let t = with_ends world schedule.grants.items b in begins_in t.at grant ≡ true → CanBegin world (fold (after_start world) t (filter (begins_in t.at) (take i schedule.grants.items))) grant)
-    begin_after world schedule b i grant u inside is begins place part at_place part_is =
-        let grants = schedule.grants.items in
-        let t = with_ends world grants b in
-        let slots = world.platform.partition_slots in
-        let len = world.platform.slot_cycles in
-        let site = site_of world u.loads grants b u.sound u.apart u.of_loads u.made in
-        let parts = load_part world b in
-        let front = take i grants in
-        let there : slice_get grants i ≡ Some grant = slice_get-get_or grants i grant inside ∙ ap (λ (g : Grant). Some g) (sym is) in
-        let alike = ended_alike world grants b in
-        let begins_b : begins_in b.at grant ≡ true = ap (λ (n : ℕ). begins_in n grant) (sym alike.at) ∙ begins in
-        let R : (ℕ → Option ℕ) → (ℕ → PartState) → TileState → Type 0 = λ granted view s. AreInstalled slots parts granted s in
-        let goes = goes_installed slots parts (b.at * len) in
-        let left = ended world u.loads b.loads grants b.number b.at (b.at * len) R nothing b site goes (tile_of world u.loads b u.made) u.fits in
-        let mid = granted_mid world grants b.at b.loads in
-        let all_starts = mid_starts world u.loads b.loads grants b.number b.at site in
-        let starts : AreStarts (begins_in b.at) front grants b.at b.loads mid = λ k g at_k. all_starts k g (taken i grants k g at_k).0 in
-        let done = fold_in world u.loads b.loads grants b.number b.at b.at R site goes (have_parts world u.loads b.loads grants b.number site) (begins_in b.at) front mid nothing t (front_labelled grants i u.apart.labelled) left.1 starts (mid_stands world u.loads b.loads grants b.number b.at site) left.0 in
-        let s = fold (after_start world) t (filter (begins_in b.at) front) in
-        let S : ℕ → Type 0 = λ n. (let s = fold (after_start world) t (filter (begins_in n) front) in load_place s grant.label ≡ Some place → load_part world s place ≡ Some part → CanCome s part) in
-        let come : S b.at = λ at_place part_is.
-        let its_part : parts place ≡ Some part = sym (parts_are world b.number b.at b.loads slots s place done.1) ∙ part_is in
-        let found : position (λ (load : LoadName). same_label load.label grant.label) b.loads ≡ Some place = ap (position (λ (load : LoadName). same_label load.label grant.label)) (sym done.1.loads_are) ∙ at_place in
-        let at = at_place_of parts b.loads grant place (have_parts world u.loads b.loads grants b.number site) found in
-        let start = all_starts i grant there begins_b in
-        let first : touches (begins_in b.at) front (slice_get b.loads place) ≡ false = ap (touches (begins_in b.at) front) at.there ∙ front_untouched (begins_in b.at) grants i grant at.load u.apart.labelled there at.label in
-        let absent = ap (λ c. cond c (Some (b.at * len)) (mid place)) first ∙ start.absent place at.load at.there at.label in
-        let room = room_is world u.loads b.loads grants b.number b.at (b.at + 1) _ s grant i place site done.1 done.0 done.2 there start.stands at absent in
-        let made = made_alike world u.loads b s (alike_more b t s alike (starts_alike world u.loads (filter (begins_in b.at) front) t u.sound.catalog (made_alike world u.loads b t alike u.made))) u.made in
-        let same : at.part ≡ part = same_Some at.part part (sym at.part_is ∙ its_part) in
-        let C : Part → Type 0 = λ part. CanCome s part in
-        let low = number_inside slots parts _ s place at.part room.free in
-        let frame : s.kernel.times.slots ≡ slots = ap (λ f. f.slots) made.frame in
-        subst C same (record {
-          some = room.free.some;
-          below = subst (λ (n : ℕ). at.part.slots < 2 ^ n) (sym frame) room.free.below;
-          free = room.free.free;
-          inside = load_part_inside world u.loads s place at.part u.sound.catalog made (part_is ∙ ap (λ (p : Part). Some p) (sym same));
-          image = room.image;
-          numbered = let size = room.free.places in omega arith;
-        }) in
-        subst S (sym alike.at) come at_place part_is
+pub held_own : (world : World) (t : TileState) (place : ℕ) (part : Part) → IsSoundTile world t → load_part world t place ≡ Some part → AreOwn t.ports part.ports
+held_own world t place part tile is = (fine_parts world tile.loads t tile.sound.catalog tile.made place part is).2
 
 -- a slot in which no grant ends or begins
 quiet_none : (p q : Grant → Bool) (grants : List Grant) → list_all (λ g. not (p g) && not (q g)) grants ≡ true → (filter p grants ≡ []) × (filter q grants ≡ [])
@@ -147,43 +40,60 @@ quiet_none p q (grant ∷ grants) quiet =
       ap (λ b. cond b (grant ∷ filter q grants) (filter q grants)) (not-true (q grant) here.1) ∙ rest.1,
     )
 
-pub quiet_same : (world : World) (grants : List Grant) (t : TileState) → list_all (λ g. not (ends_in t.at g) && not (begins_in t.at g)) grants ≡ true → t ≡ with_starts world grants (with_ends world grants t)
+pub quiet_same : (world : World) (grants : List Grant) (t : TileState) → list_all (λ g. not (ends_in t.at g) && not (begins_in t.at g)) grants ≡ true → t ≡ with_grants world grants t
 quiet_same world grants t quiet =
     let none = quiet_none (ends_in t.at) (begins_in t.at) grants quiet in
     let ended : with_ends world grants t ≡ t = ap (fold (after_end world) t) none.0 in
     let begun : with_starts world grants t ≡ t = ap (fold (after_start world) t) none.1 in
-    sym (ap (with_starts world grants) ended ∙ begun)
+    let rows : tables_after world t.number grants t.at t.tables ≡ t.tables =
+    ap₂ (λ (ends starts : List Grant). let ended = fold (λ rs grant. left grant.label rs) t.tables ends in fold (λ rs grant. with_entries grant.label (grant_entries world t.number grant) rs) ended starts) none.0 none.1 in
+    let same : with_starts world grants (with_ends world grants t) ≡ t = ap (with_starts world grants) ended ∙ begun in
+    sym (ap (with_tables world grants) same ∙ ap (λ (rows : List Row). let u : TileState = record t { tables = rows } in u) rows)
 
 -- the tile between the steps of a slot
 pub ended_ready : (world : World) (schedule : Schedule) (t after : TileState) → IsUnderway world schedule t → after ≡ with_ends world schedule.grants.items t → HasEnded world schedule after
 ended_ready world schedule t after u is = record { before = t; underway = u; is = is }
 
-pub settled_tile : (world : World) (schedule : Schedule) (t after : TileState) → IsUnderway world schedule t → after ≡ with_starts world schedule.grants.items (with_ends world schedule.grants.items t) → IsSoundTile world after
+-- the entries that its tables hold still, before those of the slot's grants leave and come
+pub settled_tabled : (world : World) (schedule : Schedule) (t after : TileState) → IsUnderway world schedule t → after ≡ with_starts world schedule.grants.items (with_ends world schedule.grants.items t) → AreTabled world schedule.grants.items after.at after.number after.tables
+settled_tabled world schedule t after u is =
+    let s = with_starts world schedule.grants.items (with_ends world schedule.grants.items t) in
+    let alike = settled_alike world u.loads schedule.grants.items t u.sound.catalog u.made in
+    let P : TileState → Type 0 = λ s. AreTabled world schedule.grants.items s.at s.number s.tables in
+    let A : ℕ → Type 0 = λ n. AreTabled world schedule.grants.items n t.number t.tables in
+    let N : ℕ → Type 0 = λ n. AreTabled world schedule.grants.items s.at n t.tables in
+    let R : List Row → Type 0 = λ rows. AreTabled world schedule.grants.items s.at s.number rows in
+    subst P (sym is) (subst R (sym (settled_tables world schedule.grants.items t)) (subst N (sym alike.number) (subst A (sym alike.at) u.fits.tables)))
+
+-- once the grants of its slot have ended and begun
+pub settled_tile : (world : World) (schedule : Schedule) (t after : TileState) → IsUnderway world schedule t → after ≡ with_grants world schedule.grants.items t → IsSoundTile world after
 settled_tile world schedule t after u is =
     let P : TileState → Type 0 = λ s. IsSoundTile world s in
-    subst P (sym is) (record { loads = u.loads; sound = u.sound; made = made_alike world u.loads t _ (settled_alike world u.loads schedule.grants.items t u.sound.catalog u.made) u.made })
+    subst P (sym is) (record { loads = u.loads; sound = u.sound; made = made_alike world u.loads t (with_grants world schedule.grants.items t) (granted_alike world u.loads schedule.grants.items t u.sound.catalog u.made) u.made })
 
--- the same in the words of the code's loops
-pub end_ready_in : (world : World) (schedule : Schedule) (t now : TileState) (slot i : ℕ) (items : List Grant) (d : Grant) → items ≡ schedule.grants.items → slot ≡ t.at → now ≡ fold (after_end world) t (filter (ends_in t.at) (take i schedule.grants.items)) → IsUnderway world schedule t → i < length items → ends_in slot (get_or items i d) ≡ true → CanEnd world now (get_or items i d)
-end_ready_in world schedule t now slot i items d are at is u inside ends =
-    let g = get_or items i d in
-    let own : g ≡ get_or schedule.grants.items i g = sym (get_or_from_slice_get items i g g (slice_get-get_or items i d inside)) ∙ ap (λ (xs : List Grant). get_or xs i g) are in
-    let low : i < length schedule.grants.items = let size = ap (λ (xs : List Grant). length xs) are in omega arith in
-    let P : TileState → Type 0 = λ s. CanEnd world s g in
-    subst P (sym is) (end_ready world schedule t i g u low own (ap (λ (n : ℕ). ends_in n g) (sym at) ∙ ends))
+pub settled_at : (world : World) (schedule : Schedule) (t after : TileState) → IsUnderway world schedule t → after ≡ with_grants world schedule.grants.items t → after.at ≡ t.at
+settled_at world schedule t after u is = ap (λ (s : TileState). s.at) is ∙ (granted_alike world u.loads schedule.grants.items t u.sound.catalog u.made).at
 
-pub begin_ready_in : (world : World) (schedule : Schedule) (t now : TileState) (slot i : ℕ) (items : List Grant) (d : Grant) → items ≡ schedule.grants.items → slot ≡ t.at → now ≡ fold (after_start world) t (filter (begins_in t.at) (take i schedule.grants.items)) → HasEnded world schedule t → i < length items → begins_in slot (get_or items i d) ≡ true → CanBegin world now (get_or items i d)
-begin_ready_in world schedule t now slot i items d are at is h inside begins =
-    let g = get_or items i d in
-    let own : g ≡ get_or schedule.grants.items i g = sym (get_or_from_slice_get items i g g (slice_get-get_or items i d inside)) ∙ ap (λ (xs : List Grant). get_or xs i g) are in
-    let low : i < length schedule.grants.items = let size = ap (λ (xs : List Grant). length xs) are in omega arith in
-    let P : TileState → Type 0 = λ s. CanBegin world s g in
-    subst P (sym is) (begin_ready world schedule t i g h low own (ap (λ (n : ℕ). begins_in n g) (sym at) ∙ begins))
+-- and once a port has injected
+pub injected_tile : (world : World) (t after : TileState) → IsSoundTile world t → after ≡ with_injection t → IsSoundTile world after
+injected_tile world t after tile is =
+    let P : TileState → Type 0 = λ s. IsSoundTile world s in
+    subst P (sym is) (record { loads = tile.loads; sound = tile.sound; made = made_alike world tile.loads t (with_injection t) (injected_kept t).alike tile.made })
 
-pub quiet_in : (world : World) (grants items : List Grant) (t : TileState) (slot : ℕ) → items ≡ grants → slot ≡ t.at → list_all (λ g. not (ends_in slot g) && not (begins_in slot g)) items ≡ true → t ≡ with_starts world grants (with_ends world grants t)
+-- no count is as high as the slots of a run
+pub counts_fit : (world : World) (schedule : Schedule) (t after : TileState) → IsUnderway world schedule t → t.at + 1 < 2 ^ 64 → after ≡ with_cycles world (with_injection (with_grants world schedule.grants.items t)) → All (λ count. count + 1 < 2 ^ 64) after.carried
+counts_fit world schedule t after u low is = λ k d inside.
+    let ready = with_grants world schedule.grants.items t in
+    let alike = granted_alike world u.loads schedule.grants.items t u.sound.catalog u.made in
+    let ready_made = made_alike world u.loads t ready alike u.made in
+    let active = active_kept world u.loads ready u.sound.catalog ready_made in
+    let same : after.carried ≡ t.carried = ap (λ (s : TileState). s.carried) is ∙ active.alike.carried ∙ alike.carried in
+    let size = ap (λ (counts : List ℕ). length counts) same in
+    let read = ap (λ (counts : List ℕ). get_or counts k d) same in
+    let most = u.made.counts k d (omega arith) in
+    omega arith
+
+pub quiet_in : (world : World) (grants items : List Grant) (t : TileState) (slot : ℕ) → items ≡ grants → slot ≡ t.at → list_all (λ g. not (ends_in slot g) && not (begins_in slot g)) items ≡ true → t ≡ with_grants world grants t
 quiet_in world grants items t slot are at quiet =
     let P : ℕ → Type 0 = λ n. list_all (λ g. not (ends_in n g) && not (begins_in n g)) grants ≡ true in
     quiet_same world grants t (subst P at (ap (list_all (λ g. not (ends_in slot g) && not (begins_in slot g))) (sym are) ∙ quiet))
-
-pub settled_at : (world : World) (schedule : Schedule) (t after : TileState) → IsUnderway world schedule t → after ≡ with_starts world schedule.grants.items (with_ends world schedule.grants.items t) → after.at ≡ t.at
-settled_at world schedule t after u is = ap (λ (s : TileState). s.at) is ∙ (settled_alike world u.loads schedule.grants.items t u.sound.catalog u.made).at

@@ -19,7 +19,8 @@ use Rattle.tile_core.specs.Tile.{TileState}
 use Rattle.tile_core.specs.Fit.{AreInstalled}
 use Rattle.tile_core.proofs.Installed.{room_free}
 use Rattle.tile_core.proofs.Coming.{IsRoom}
-use Rattle.tile_core.proofs.Sites.{IsSite, site_part, IsGranted, site_part_is, granted_disjoint}
+use Rattle.tile_core.proofs.Sites.{IsSite, site_part, IsGranted, site_part_is, granted_disjoint, granted_ports}
+use Rattle.tile_core.proofs.Ports.{ArePartedParts}
 use Rattle.tile_core.proofs.Folding.{IsTile, IsAt}
 
 no_slots : slots_of 0 ≡ []
@@ -58,10 +59,17 @@ slots_fit world part sound = fits_word part.slots world.platform.partition_slots
 pub slots_some : (world : World) (part : Part) → IsWellFormedPart world.platform part → 0 < part.slots
 slots_some world part sound = some_slots part.slots sound.some_slot
 
--- installed parts share nothing
+-- installed parts share no partition slot
 pub apart_at : (world : World) (all loads : List LoadName) (grants : List Grant) (number slot : ℕ) (granted : ℕ → Option ℕ) (i j s e : ℕ) (one other : Part) → IsSite world all loads grants number → AreStanding world grants slot loads granted → i ≢ j → IsGranted world grants slot loads i s → granted j ≡ Some e → site_part world number loads i ≡ Some one → site_part world number loads j ≡ Some other → AreDisjoint one other
 apart_at world all loads grants number slot granted i j s e one other site standing differ a begins one_is other_is =
     granted_disjoint world all loads grants number slot i j s e one other site differ a (standing j e begins) one_is other_is
+
+-- installed parts share nothing
+pub parted_at : (world : World) (all loads : List LoadName) (grants : List Grant) (number slot : ℕ) (granted : ℕ → Option ℕ) (i j s e : ℕ) (one other : Part) → IsSite world all loads grants number → AreStanding world grants slot loads granted → i ≢ j → IsGranted world grants slot loads i s → granted j ≡ Some e → site_part world number loads i ≡ Some one → site_part world number loads j ≡ Some other → ArePartedParts one other
+parted_at world all loads grants number slot granted i j s e one other site standing differ a begins one_is other_is = record {
+  regions = (apart_at world all loads grants number slot granted i j s e one other site standing differ a begins one_is other_is).regions;
+  ports = granted_ports world all loads grants number slot i j s e one other site differ a (standing j e begins) one_is other_is;
+}
 
 pub room_is : (world : World) (all loads : List LoadName) (grants : List Grant) (number at slot : ℕ) (granted : ℕ → Option ℕ) (t : TileState) (grant : Grant) (k i : ℕ) → IsSite world all loads grants number → IsTile number at loads world.platform.partition_slots t → AreInstalled world.platform.partition_slots (site_part world number loads) granted t → AreStanding world grants slot loads granted → slice_get grants k ≡ Some grant → stands_at slot grant ≡ true → (one : IsAt (site_part world number loads) loads grant i) → granted i ≡ None → IsRoom world.platform.partition_slots (site_part world number loads) granted t i one.part
 room_is world all loads grants number at slot granted t grant k i site is h standing at_k stands one absent =
@@ -94,5 +102,6 @@ room_is world all loads grants number at slot granted t grant k i site is h stan
         places = is.places;
       };
       image = sound.image_fits;
-      parted = λ place q s q_is begins. (disjoint place s q q_is begins).regions;
+      parted = λ place q s q_is begins.
+          parted_at world all loads grants number slot granted i place (grant.start * world.platform.slot_cycles) s part q site standing (apart place s begins) own begins one.part_is q_is;
     }

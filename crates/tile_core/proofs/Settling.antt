@@ -1,8 +1,8 @@
 -- A tile after the grants of a slot have ended and begun.
-use Rattle.std.proofs.Common.{◌≡◌, ℕ, ◌+◌, ◌*◌, ◌==◌, Bool, true, false, cond, List, fold, filter, slice_get, Option, Some, None, option_and_then, refl, sym, subst, ap, ap₂, ◌∙◌}
+use Rattle.std.proofs.Common.{◌≡◌, ◌≢◌, ℕ, ◌+◌, ◌*◌, ◌==◌, Bool, true, false, cond, List, fold, filter, slice_get, Option, Some, None, option_and_then, refl, sym, subst, ap, ap₂, ◌∙◌, inl, inr}
 use Rattle.std.specs.Option.{option_map_or}
-use Rattle.std.proofs.lemmas.Bool.{and_parts, and_from, eqb-true, eq-eqb, ne_eqb}
-use Rattle.std.proofs.lemmas.Option.{none-some}
+use Rattle.std.proofs.lemmas.Bool.{cases_eq, and_parts, eqb-true, eq-eqb, ne_eqb}
+use Rattle.std.proofs.lemmas.Option.{none-some, same_Some}
 use Rattle.soc_base.specs.declared.label.Label.{Label}
 use Rattle.soc_base.specs.Time.{FrameTimes}
 use Rattle.bundle_model.specs.declared.bundle.Part.{Part}
@@ -17,36 +17,70 @@ use Rattle.tile_core.specs.Slot.{grant_of, ends_in, begins_in, after_end, with_e
 use Rattle.tile_core.specs.Fit.{AreInstalled, granted_cycle}
 use Rattle.tile_core.specs.Holds.{Holds}
 use Rattle.tile_core.proofs.Installed.{installed_by, installed_removed, installed_installed}
-use Rattle.tile_core.proofs.Coming.{holds_removed, holds_installed, holds_by}
+use Rattle.tile_core.proofs.Ports.{ArePartedParts, parted_sym}
+use Rattle.tile_core.proofs.Holding.{AreParted}
+use Rattle.tile_core.proofs.Coming.{IsRoom, holds_removed, holds_installed, holds_by}
 use Rattle.tile_core.proofs.Standing.{AreLabelled, touched_is, if_stands, standing_is, first_cycle, next_standing}
 use Rattle.tile_core.proofs.Sites.{IsSite, site_part, site_granted, IsGranted, load_has, loads_keyed, site_granted_is}
-use Rattle.tile_core.proofs.Folding.{IsTile, touches, GoesOn, granted_without, AreThere, HaveParts, fold_out}
+use Rattle.tile_core.proofs.Folding.{IsTile, same_from, touches, GoesAlong, granted_without, AreThere, HaveParts, fold_out}
 use Rattle.tile_core.proofs.Rooms.{AreStanding}
 use Rattle.tile_core.proofs.Starting.{granted_with, views_with, AreStarts, fold_in}
-use Rattle.tile_core.proofs.Turns.{ended_stood, begun_stands, begun_late, stays_stands}
+use Rattle.grant_tables.proofs.Laws.{ended_stood, begun_stands, begun_late, stays_stands}
 
 -- what is installed goes with parts that leave and come
-pub goes_installed : (slots : ℕ) (parts : ℕ → Option Part) (cycle : ℕ) → GoesOn slots parts cycle (λ granted view t. AreInstalled slots parts granted t)
-goes_installed slots parts cycle = record {
+pub goes_installed : (world : World) (slots : ℕ) (parts : ℕ → Option Part) (cycle : ℕ) → GoesAlong world slots parts cycle (λ granted view t. AreInstalled slots parts granted t)
+goes_installed world slots parts cycle = record {
   by = λ granted later view other t same same_view h. installed_by slots parts granted later t same h;
   holds = λ granted view t h. h;
-  leaves = λ granted later view t i part start h is begins gone stay. installed_removed slots parts granted later t i part start h is begins gone stay;
-  comes = λ granted later view after t i part h room now stay opens same. installed_installed slots parts granted later t i part cycle h room.free now stay;
+  leaves = λ granted later view t i part start h is begins gone stay. installed_removed world slots parts granted later t i part start h is begins gone stay;
+  comes = λ granted later view after t i part h room now stay opens same. installed_installed world slots parts granted later t i part cycle h room.free now stay;
 }
 
--- the tile holds the parts, whatever the starts by the parts' numbers
+-- the tile holds the parts, whatever the starts by the parts' numbers, and those that are installed are
+-- parted
 pub record HoldsSome (times : FrameTimes) (parts : ℕ → Option Part) (cycle : ℕ) (granted : ℕ → Option ℕ) (view : ℕ → PartState) (t : TileState) : Type 0 where
   pub starts : ℕ → ℕ
+  pub parted : AreParted parts granted
   pub holds : Holds times parts granted starts view cycle t
 
-pub goes_holds : (times : FrameTimes) (parts : ℕ → Option Part) (cycle : ℕ) → GoesOn times.slots parts cycle (HoldsSome times parts cycle)
-goes_holds times parts cycle = record {
-  by = λ granted later view other t same same_view h. record { starts = h.starts; holds = holds_by times parts granted later h.starts view other cycle t same same_view h.holds };
+-- parts of which no more are installed
+parted_by : (parts : ℕ → Option Part) (granted later : ℕ → Option ℕ) → ((place s : ℕ) → later place ≡ Some s → granted place ≡ Some s) → AreParted parts granted → AreParted parts later
+parted_by parts granted later were parted = λ i j one other s e differ one_is one_begins other_is other_begins.
+    parted i j one other s e differ one_is (were i s one_begins) other_is (were j e other_begins)
+
+-- one more, for which there is room
+parted_with : (slots : ℕ) (parts : ℕ → Option Part) (granted later : ℕ → Option ℕ) (t : TileState) (i : ℕ) (part : Part) → IsRoom slots parts granted t i part → ((place : ℕ) → place ≢ i → later place ≡ granted place) → AreParted parts granted → AreParted parts later
+parted_with slots parts granted later t i part room stay parted a b one other s e differ one_is one_begins other_is other_begins =
+    let own : (place : ℕ) (q : Part) → place ≡ i → parts place ≡ Some q → part ≡ q = λ place q here is. same_Some part q (sym room.free.part_is ∙ ap parts (sym here) ∙ is) in
+    let was : (place n : ℕ) → place ≢ i → later place ≡ Some n → granted place ≡ Some n = λ place n apart begins. sym (stay place apart) ∙ begins in
+    elim (cases_eq a i) [
+      | inl here ↦
+          let there : b ≢ i = λ also. differ (here ∙ sym also) in
+          subst (λ (q : Part). ArePartedParts q other) (own a one here one_is) (room.parted b other e other_is (was b e there other_begins))
+      | inr apart ↦ elim (cases_eq b i) [
+        | inl here ↦
+            parted_sym other one (subst (λ (q : Part). ArePartedParts q one) (own b other here other_is) (room.parted a one s one_is (was a s apart one_begins)))
+        | inr also ↦ parted a b one other s e differ one_is (was a s apart one_begins) other_is (was b e also other_begins)
+      ]
+    ]
+
+pub goes_holds : (world : World) (times : FrameTimes) (parts : ℕ → Option Part) (cycle : ℕ) → GoesAlong world times.slots parts cycle (HoldsSome times parts cycle)
+goes_holds world times parts cycle = record {
+  by = λ granted later view other t same same_view h. record {
+    starts = h.starts;
+    parted = parted_by parts granted later (λ place s begins. sym (same place) ∙ begins) h.parted;
+    holds = holds_by times parts granted later h.starts view other cycle t same same_view h.holds;
+  };
   holds = λ granted view t h. h.holds.installed;
-  leaves = λ granted later view t i part start h is begins gone stay. record { starts = h.starts; holds = holds_removed times parts granted later h.starts view cycle t i part start h.holds is begins gone stay };
+  leaves = λ granted later view t i part start h is begins gone stay. record {
+    starts = h.starts;
+    parted = parted_by parts granted later (λ place s then. sym (stay place (λ here. none-some s (sym gone ∙ ap later (sym here) ∙ then))) ∙ then) h.parted;
+    holds = holds_removed world times parts granted later h.starts view cycle t i part start h.holds is h.parted begins gone stay;
+  };
   comes = λ granted later view after t i part h room now stay opens same. record {
     starts = λ n. cond (n == number_of part) cycle (h.starts n);
-    holds = holds_installed times parts granted later h.starts (λ n. cond (n == number_of part) cycle (h.starts n)) view after cycle t i part h.holds room now stay
+    parted = parted_with times.slots parts granted later t i part room stay h.parted;
+    holds = holds_installed world times parts granted later h.starts (λ n. cond (n == number_of part) cycle (h.starts n)) view after cycle t i part h.holds room now stay
         (ap (λ b. cond b cycle (h.starts (number_of part))) (eq-eqb (number_of part) (number_of part) refl))
         (λ n apart. ap (λ b. cond b cycle (h.starts n)) (ne_eqb n (number_of part) apart)) opens same;
   };
@@ -62,7 +96,7 @@ have_parts world all loads grants number site place load there =
 pub own_grant : (world : World) (all loads : List LoadName) (grants : List Grant) (number k : ℕ) (grant : Grant) (label : Label) → IsSite world all loads grants number → slice_get grants k ≡ Some grant → grant.label ≡ label → grant_of grants label ≡ Some grant
 own_grant world all loads grants number k grant label site there same =
     found_at (λ (g : Grant). same_label g.label label) grants k grant there
-    (and_from (grant.label.session == label.session) (grant.label.load == label.load) (eq-eqb grant.label.session label.session (ap (λ (l : Label). l.session) same)) (eq-eqb grant.label.load label.load (ap (λ (l : Label). l.load) same)))
+    (same_from grant.label label same)
     (λ j other at is. keyed_pairs (λ (g : Grant). g.label) grants site.apart.labelled j k other grant at there (same_so other.label label is ∙ sym same))
 
 -- the cycle of a grant that stands, and none of one that doesn't
@@ -131,15 +165,15 @@ pub next_granted : (world : World) (all loads : List LoadName) (grants : List Gr
 next_granted world all loads grants number slot place site = next_by world grants slot (slice_get loads place) site.apart.labelled
 
 -- a tile after the grants that end in its slot, and after those that begin in it
-pub ended : (world : World) (all loads : List LoadName) (grants : List Grant) (number slot cycle : ℕ) (R : (ℕ → Option ℕ) → (ℕ → PartState) → TileState → Type 0) (view : ℕ → PartState) (t : TileState) → IsSite world all loads grants number → GoesOn world.platform.partition_slots (site_part world number loads) cycle R → IsTile number slot loads world.platform.partition_slots t → R (site_granted world grants slot loads) view t → R (granted_mid world grants slot loads) view (with_ends world grants t) × IsTile number slot loads world.platform.partition_slots (with_ends world grants t)
+pub ended : (world : World) (all loads : List LoadName) (grants : List Grant) (number slot cycle : ℕ) (R : (ℕ → Option ℕ) → (ℕ → PartState) → TileState → Type 0) (view : ℕ → PartState) (t : TileState) → IsSite world all loads grants number → GoesAlong world world.platform.partition_slots (site_part world number loads) cycle R → IsTile number slot loads world.platform.partition_slots t → R (site_granted world grants slot loads) view t → R (granted_mid world grants slot loads) view (with_ends world grants t) × IsTile number slot loads world.platform.partition_slots (with_ends world grants t)
 ended world all loads grants number slot cycle R view t site goes is holds =
     let done = fold_out world number slot loads world.platform.partition_slots cycle R goes (loads_keyed world all loads grants number site) (have_parts world all loads grants number site) (ends_in slot) grants (site_granted world grants slot loads) view t site.apart.labelled is (ends_there world all loads grants number slot site) holds in
     let P : ℕ → Type 0 = λ at. (let s = fold (after_end world) t (filter (ends_in at) grants) in R (granted_mid world grants slot loads) view s × IsTile number slot loads world.platform.partition_slots s) in
     subst P (sym is.at_is) done
 
-pub begun : (world : World) (all loads : List LoadName) (grants : List Grant) (number slot : ℕ) (R : (ℕ → Option ℕ) → (ℕ → PartState) → TileState → Type 0) (view : ℕ → PartState) (t : TileState) → IsSite world all loads grants number → GoesOn world.platform.partition_slots (site_part world number loads) (slot * world.platform.slot_cycles) R → IsTile number slot loads world.platform.partition_slots t → R (granted_mid world grants slot loads) view t → R (site_granted world grants (slot + 1) loads) (views_with (begins_in slot) grants loads (site_part world number loads) view) (with_starts world grants t) × IsTile number slot loads world.platform.partition_slots (with_starts world grants t)
+pub begun : (world : World) (all loads : List LoadName) (grants : List Grant) (number slot : ℕ) (R : (ℕ → Option ℕ) → (ℕ → PartState) → TileState → Type 0) (view : ℕ → PartState) (t : TileState) → IsSite world all loads grants number → GoesAlong world world.platform.partition_slots (site_part world number loads) (slot * world.platform.slot_cycles) R → IsTile number slot loads world.platform.partition_slots t → R (granted_mid world grants slot loads) view t → R (site_granted world grants (slot + 1) loads) (views_with world (begins_in slot) grants loads (site_part world number loads) view) (with_starts world grants t) × IsTile number slot loads world.platform.partition_slots (with_starts world grants t)
 begun world all loads grants number slot R view t site goes is holds =
     let done = fold_in world all loads grants number slot slot R site goes (have_parts world all loads grants number site) (begins_in slot) grants (granted_mid world grants slot loads) view t site.apart.labelled is (mid_starts world all loads grants number slot site) (mid_stands world all loads grants number slot site) holds in
-    let now = goes.by (granted_with (slot * world.platform.slot_cycles) (begins_in slot) grants loads (granted_mid world grants slot loads)) (site_granted world grants (slot + 1) loads) (views_with (begins_in slot) grants loads (site_part world number loads) view) (views_with (begins_in slot) grants loads (site_part world number loads) view) _ (λ place. sym (next_granted world all loads grants number slot place site)) (λ place part is. refl) done.0 in
-    let P : ℕ → Type 0 = λ at. (let s = fold (after_start world) t (filter (begins_in at) grants) in R (site_granted world grants (slot + 1) loads) (views_with (begins_in slot) grants loads (site_part world number loads) view) s × IsTile number slot loads world.platform.partition_slots s) in
+    let now = goes.by (granted_with (slot * world.platform.slot_cycles) (begins_in slot) grants loads (granted_mid world grants slot loads)) (site_granted world grants (slot + 1) loads) (views_with world (begins_in slot) grants loads (site_part world number loads) view) (views_with world (begins_in slot) grants loads (site_part world number loads) view) _ (λ place. sym (next_granted world all loads grants number slot place site)) (λ place part is. refl) done.0 in
+    let P : ℕ → Type 0 = λ at. (let s = fold (after_start world) t (filter (begins_in at) grants) in R (site_granted world grants (slot + 1) loads) (views_with world (begins_in slot) grants loads (site_part world number loads) view) s × IsTile number slot loads world.platform.partition_slots s) in
     subst P (sym is.at_is) (now, done.1)

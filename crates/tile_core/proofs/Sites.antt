@@ -1,5 +1,6 @@
 -- The loads of a tile, their parts, and the grants that are theirs.
-use Rattle.std.proofs.Common.{◌≡◌, ◌≢◌, ℕ, ◌*◌, ◌&&◌, true, List, get_or, slice_get, Option, Some, None, is_some, option_map, option_and_then, All, refl, sym, ap, ◌∙◌, subst}
+use Rattle.std.proofs.Common.{◌≡◌, ◌≢◌, ℕ, ◌*◌, ◌<◌, ◌&&◌, true, List, [], get_or, length, slice_get, Option, Some, None, is_some, option_map, option_and_then, All, refl, sym, ap, ap₂, ◌∙◌, subst}
+use Rattle.std.specs.Option.{option_map_or}
 use Rattle.std.proofs.lemmas.Bool.{and_parts, false≢true}
 use Rattle.std.proofs.lemmas.List.Elements.{All-filter, filter_passes}
 use Rattle.std.proofs.lemmas.List.Kept.{AllPairs-filter}
@@ -8,11 +9,16 @@ use Rattle.bundle_model.specs.declared.bundle.Part.{Part}
 use Rattle.bundle_model.specs.declared.world.World.{World}
 use Rattle.bundle_model.specs.declared.world.LoadName.{LoadName}
 use Rattle.bundle_model.specs.declared.world.Grant.{Grant}
-use Rattle.bundle_model.specs.Grants.{IsApart, bundle_at, stands_at}
+use Rattle.bundle_model.specs.declared.bundle.Bundle.{Bundle}
+use Rattle.bundle_model.specs.declared.resource.Resource.{Resource}
+use Rattle.bundle_model.specs.declared.resource.Resource.TheVariants.{Port}
+use Rattle.bundle_model.specs.Resources.{resources_of}
+use Rattle.bundle_model.specs.Grants.{IsApart, bundle_at, grant_resources, stands_at}
 use Rattle.bundle_model.specs.World.{same_label, part_on, IsSoundWorld, AreOfLoads}
-use Rattle.bundle_model.proofs.Laws.{AreKeyed, at_place, keyed_pairs, found_place, AreDisjoint, HasPart, same_so, IsPartOn, is_part_on, grant_bundle, standing_disjoint}
+use Rattle.bundle_model.proofs.Laws.{AreKeyed, at_place, keyed_pairs, found_place, AreDisjoint, HasPart, same_so, IsPartOn, is_part_on, grant_bundle, standing_disjoint, port_held, present_now, one_holder}
 use Rattle.tile_core.specs.Tile.{loads_on}
 use Rattle.tile_core.specs.Fit.{standing_grant, granted_cycle}
+use Rattle.tile_core.proofs.Ports.{ArePartedPorts}
 
 -- what every lemma here is about: a sound world, grants that are apart and of its loads, and the loads
 -- that have a part on a tile
@@ -105,13 +111,34 @@ granted_part world all loads grants number slot place start part site g is =
     let bundle : g.grant.bundle ≡ p.load.bundle = bundle_is world all loads grants number place g.index p.load g.grant site p.there g.granted (g.label ∙ ap (λ (l : LoadName). l.label) (sym load)) in
     record { bundle = p.on.bundle; bundled = ap (bundle_at world) bundle ∙ p.on.bundled; place = p.on.at; there = p.on.there; sound = p.on.sound }
 
--- the parts of two loads whose grants stand in one slot share nothing
+-- grants of two loads stand at two places
+indices_differ : (world : World) (all loads : List LoadName) (grants : List Grant) (number slot i j s e : ℕ) → IsSite world all loads grants number → i ≢ j → (a : IsGranted world grants slot loads i s) → (b : IsGranted world grants slot loads j e) → a.index ≢ b.index
+indices_differ world all loads grants number slot i j s e site differ a b = λ same.
+    let grant : a.grant ≡ b.grant = same_Some a.grant b.grant (sym a.granted ∙ ap (slice_get grants) same ∙ b.granted) in
+    differ (loads_keyed world all loads grants number site i j a.load b.load a.there b.there (sym a.label ∙ ap (λ (g : Grant). g.label) grant ∙ b.label))
+
+-- the parts of two loads whose grants stand in one slot share no partition slot and no byte
 pub granted_disjoint : (world : World) (all loads : List LoadName) (grants : List Grant) (number slot i j s e : ℕ) (one other : Part) → IsSite world all loads grants number → i ≢ j → IsGranted world grants slot loads i s → IsGranted world grants slot loads j e → site_part world number loads i ≡ Some one → site_part world number loads j ≡ Some other → AreDisjoint one other
 granted_disjoint world all loads grants number slot i j s e one other site differ a b one_is other_is =
     let a_part = site_part_is world all loads grants number i one site one_is in
     let b_part = site_part_is world all loads grants number j other site other_is in
-    let indices : a.index ≢ b.index = λ same.
-    let grant : a.grant ≡ b.grant = same_Some a.grant b.grant (sym a.granted ∙ ap (slice_get grants) same ∙ b.granted) in
-    differ (loads_keyed world all loads grants number site i j a.load b.load a.there b.there (sym a.label ∙ ap (λ (g : Grant). g.label) grant ∙ b.label)) in
-    standing_disjoint world grants slot a.index b.index a.grant b.grant one other site.apart indices a.granted b.granted a.stands b.stands
+    standing_disjoint world grants slot a.index b.index a.grant b.grant one other site.apart (indices_differ world all loads grants number slot i j s e site differ a b) a.granted b.granted a.stands b.stands
     (granted_part world all loads grants number slot i s one site a one_is) (granted_part world all loads grants number slot j e other site b other_is) (a_part.on.tile ∙ sym b_part.on.tile)
+
+-- a port of a grant's part is among the grant's resources
+port_of : (world : World) (grant : Grant) (part : Part) (k : ℕ) → HasPart world grant part → k < length part.ports → (place : ℕ) × (slice_get (grant_resources world grant) place ≡ Some (Port part.tile (get_or part.ports k 0)))
+port_of world grant part k has inside =
+    let held = port_held world.platform has.bundle has.place k (get_or part.ports k 0) part has.there (slice_get-get_or part.ports k 0 inside) in
+    (held.0, ap (λ (found : Option Bundle). slice_get (option_map_or (resources_of world.platform) found []) held.0) has.bundled ∙ held.1)
+
+-- nor a port
+pub granted_ports : (world : World) (all loads : List LoadName) (grants : List Grant) (number slot i j s e : ℕ) (one other : Part) → IsSite world all loads grants number → i ≢ j → IsGranted world grants slot loads i s → IsGranted world grants slot loads j e → site_part world number loads i ≡ Some one → site_part world number loads j ≡ Some other → ArePartedPorts one.ports other.ports
+granted_ports world all loads grants number slot i j s e one other site differ a b one_is other_is k m inside within same =
+    let a_part = site_part_is world all loads grants number i one site one_is in
+    let b_part = site_part_is world all loads grants number j other site other_is in
+    let a_port = port_of world a.grant one k (granted_part world all loads grants number slot i s one site a one_is) inside in
+    let b_port = port_of world b.grant other m (granted_part world all loads grants number slot j e other site b other_is) within in
+    let resource : Port other.tile (get_or other.ports m 0) ≡ Port one.tile (get_or one.ports k 0) = ap₂ Port (b_part.on.tile ∙ sym a_part.on.tile) (sym same) in
+    indices_differ world all loads grants number slot i j s e site differ a b
+    (one_holder world grants slot a.index b.index a_port.0 b_port.0 a.grant b.grant (Port one.tile (get_or one.ports k 0)) site.apart
+    (present_now grants slot a.index a.grant a.granted a.stands) (present_now grants slot b.index b.grant b.granted b.stands) a_port.1 (b_port.1 ∙ ap (λ (r : Resource). Some r) resource))

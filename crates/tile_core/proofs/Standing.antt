@@ -3,7 +3,9 @@ use Rattle.std.proofs.Common.{◌≡◌, ◌≢◌, ℕ, suc, ◌+◌, ◌*◌, 
 use Rattle.std.specs.Option.{option_map_or}
 use Rattle.std.specs.List.{list_any}
 use Rattle.std.proofs.lemmas.List.Elements.{All-head, All-tail}
+use Rattle.std.proofs.lemmas.Bool.{false_from_ne_true}
 use Rattle.std.proofs.lemmas.Bool.Decides.{nat_tests}
+use Rattle.std.proofs.Math.Bool.{and-false}
 use Rattle.soc_base.specs.declared.label.Label.{Label}
 use Rattle.bundle_model.specs.declared.world.Grant.{Grant}
 use Rattle.bundle_model.specs.World.{same_label}
@@ -11,10 +13,6 @@ use Rattle.tile_core.specs.Slot.{grant_of, ends_in, begins_in}
 use Rattle.bundle_model.specs.Grants.{stands_at}
 use Rattle.bundle_model.proofs.Laws.{same_so}
 use Rattle.tile_core.specs.Fit.{standing_grant}
-
-false_from : (b : Bool) → (b ≡ true → ⊥) → b ≡ false
-false_from true never = absurd (never refl)
-false_from false never = refl
 
 -- no two grants have one label
 abbrev pub AreLabelled : List Grant → Type 0
@@ -30,7 +28,7 @@ none_other : (slot : ℕ) (label : Label) (grants : List Grant) → All (λ othe
 none_other slot label [] apart = refl
 none_other slot label (grant ∷ grants) apart =
     let differ = All-head (λ other. label ≢ other.label) grant grants apart in
-    let differs : same_label grant.label label ≡ false = false_from (same_label grant.label label) (λ e. differ (sym (same_so grant.label label e))) in
+    let differs : same_label grant.label label ≡ false = false_from_ne_true (same_label grant.label label) (λ e. differ (sym (same_so grant.label label e))) in
     ap (λ same. cond (same && stands_at slot grant) (Some grant) (standing_grant grants slot label)) differs
     ∙ none_other slot label grants (All-tail (λ other. label ≢ other.label) grant grants apart)
 
@@ -88,10 +86,6 @@ next_standing slot len (Some grant) =
 abbrev pub touched : (Grant → Bool) → List Grant → Label → Bool
 touched p grants label = list_any (λ grant. p grant && same_label grant.label label) grants
 
-never : (b : Bool) → (b && false) ≡ false
-never true = refl
-never false = refl
-
 only : (b : Bool) → ((b && true) || false) ≡ b
 only true = refl
 only false = refl
@@ -100,9 +94,9 @@ pub untouched : (p : Grant → Bool) (label : Label) (grants : List Grant) → A
 untouched p label [] apart = refl
 untouched p label (grant ∷ grants) apart =
     let differ = All-head (λ other. label ≢ other.label) grant grants apart in
-    let differs : same_label grant.label label ≡ false = false_from (same_label grant.label label) (λ e. differ (sym (same_so grant.label label e))) in
+    let differs : same_label grant.label label ≡ false = false_from_ne_true (same_label grant.label label) (λ e. differ (sym (same_so grant.label label e))) in
     ap (λ same. (p grant && same) || touched p grants label) differs
-    ∙ ap (λ b. b || touched p grants label) (never (p grant))
+    ∙ ap (λ b. b || touched p grants label) (and-false (p grant))
     ∙ untouched p label grants (All-tail (λ other. label ≢ other.label) grant grants apart)
 
 touched_case : (p : Grant → Bool) (label : Label) (grant : Grant) (grants : List Grant) (same : Bool) → same_label grant.label label ≡ same → All (λ other. grant.label ≢ other.label) grants → touched p grants label ≡ option_map_or p (grant_of grants label) false → touched p (grant ∷ grants) label ≡ option_map_or p (grant_of (grant ∷ grants) label) false
@@ -115,7 +109,7 @@ touched_case p label grant grants true e apart rest =
     ∙ sym (ap (λ same. option_map_or p (cond same (Some grant) (grant_of grants label)) false) e)
 touched_case p label grant grants false e apart rest =
     ap (λ same. (p grant && same) || touched p grants label) e
-    ∙ ap (λ b. b || touched p grants label) (never (p grant))
+    ∙ ap (λ b. b || touched p grants label) (and-false (p grant))
     ∙ rest
     ∙ sym (ap (λ same. option_map_or p (cond same (Some grant) (grant_of grants label)) false) e)
 

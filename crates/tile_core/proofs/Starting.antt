@@ -15,7 +15,7 @@ use Rattle.tile_core.specs.Slot.{installed, installed_if, installed_at, after_st
 use Rattle.tile_core.specs.Views.{opening_view}
 use Rattle.tile_core.proofs.Standing.{AreLabelled, rest_apart}
 use Rattle.tile_core.proofs.Sites.{IsSite, site_part, IsGranted, loads_keyed}
-use Rattle.tile_core.proofs.Folding.{IsTile, tile_installed, is_of, touches, touches_more, touches_less, filter_in, filter_out, GoesOn, HaveParts, at_place_of, not_of, is_of_own, none_of, of_load, other_load}
+use Rattle.tile_core.proofs.Folding.{IsTile, tile_installed, is_of, touches, touches_more, touches_less, filter_in, filter_out, GoesAlong, HaveParts, at_place_of, not_of, is_of_own, none_of, of_load, other_load}
 use Rattle.tile_core.proofs.Rooms.{AreStanding, room_is}
 
 -- what is granted once some grants have begun
@@ -23,12 +23,12 @@ abbrev pub granted_with : ℕ → (Grant → Bool) → List Grant → List LoadN
 granted_with cycle p grants loads granted place = cond (touches p grants (slice_get loads place)) (Some cycle) (granted place)
 
 -- a part as it is when its application is granted
-abbrev pub opened : Option Part → PartState → PartState
-opened None view = view
-opened (Some part) view = opening_view part view.log
+abbrev pub opened : World → Option Part → PartState → PartState
+opened world None view = view
+opened world (Some part) view = opening_view world part view.log
 
-abbrev pub views_with : (Grant → Bool) → List Grant → List LoadName → (ℕ → Option Part) → (ℕ → PartState) → ℕ → PartState
-views_with p grants loads parts view place = cond (touches p grants (slice_get loads place)) (opened (parts place) (view place)) (view place)
+abbrev pub views_with : World → (Grant → Bool) → List Grant → List LoadName → (ℕ → Option Part) → (ℕ → PartState) → ℕ → PartState
+views_with world p grants loads parts view place = cond (touches p grants (slice_get loads place)) (opened world (parts place) (view place)) (view place)
 
 -- each grant that passes is one of the schedule's that begins in the slot, and its load isn't granted yet
 pub record IsStart (all : List Grant) (slot : ℕ) (loads : List LoadName) (granted : ℕ → Option ℕ) (grant : Grant) : Type 0 where
@@ -41,19 +41,19 @@ pub record IsStart (all : List Grant) (slot : ℕ) (loads : List LoadName) (gran
 abbrev pub AreStarts : (Grant → Bool) → List Grant → List Grant → ℕ → List LoadName → (ℕ → Option ℕ) → Type 0
 AreStarts p grants all slot loads granted = (k : ℕ) (grant : Grant) → slice_get grants k ≡ Some grant → p grant ≡ true → IsStart all slot loads granted grant
 
-come_by : (world : World) (number at : ℕ) (loads : List LoadName) (slots : ℕ) (t : TileState) (grant : Grant) (place : Option ℕ) → IsTile number at loads slots t → position (λ (load : LoadName). same_label load.label grant.label) loads ≡ place → after_start world t grant ≡ option_map_or (λ i. installed_if t i (site_part world number loads i)) place t
+come_by : (world : World) (number at : ℕ) (loads : List LoadName) (slots : ℕ) (t : TileState) (grant : Grant) (place : Option ℕ) → IsTile number at loads slots t → position (λ (load : LoadName). same_label load.label grant.label) loads ≡ place → after_start world t grant ≡ option_map_or (λ i. installed_if world t i (site_part world number loads i)) place t
 come_by world number at loads slots t grant place is found =
     first (position (λ (load : LoadName). same_label load.label grant.label) t.loads)
-    ∙ ap₂ (λ (n : ℕ) (xs : List LoadName). option_map_or (λ i. installed_if t i (site_part world n xs i)) (position (λ (load : LoadName). same_label load.label grant.label) xs) t) is.number_is is.loads_are
-    ∙ ap (λ (o : Option ℕ). option_map_or (λ i. installed_if t i (site_part world number loads i)) o t) found
+    ∙ ap₂ (λ (n : ℕ) (xs : List LoadName). option_map_or (λ i. installed_if world t i (site_part world n xs i)) (position (λ (load : LoadName). same_label load.label grant.label) xs) t) is.number_is is.loads_are
+    ∙ ap (λ (o : Option ℕ). option_map_or (λ i. installed_if world t i (site_part world number loads i)) o t) found
   where
-    first : (o : Option ℕ) → installed_at world t o ≡ option_map_or (λ i. installed_if t i (site_part world t.number t.loads i)) o t
+    first : (o : Option ℕ) → installed_at world t o ≡ option_map_or (λ i. installed_if world t i (site_part world t.number t.loads i)) o t
     first None = refl
     first (Some i) = refl
 
-pub fold_in : (world : World) (all_loads loads : List LoadName) (all : List Grant) (number at slot : ℕ) (R : (ℕ → Option ℕ) → (ℕ → PartState) → TileState → Type 0) → IsSite world all_loads loads all number → GoesOn world.platform.partition_slots (site_part world number loads) (slot * world.platform.slot_cycles) R → HaveParts (site_part world number loads) loads → (p : Grant → Bool) (grants : List Grant) (granted : ℕ → Option ℕ) (view : ℕ → PartState) (t : TileState) → AreLabelled grants → IsTile number at loads world.platform.partition_slots t → AreStarts p grants all slot loads granted → AreStanding world all (slot + 1) loads granted → R granted view t → R (granted_with (slot * world.platform.slot_cycles) p grants loads granted) (views_with p grants loads (site_part world number loads) view) (fold (after_start world) t (filter p grants)) × IsTile number at loads world.platform.partition_slots (fold (after_start world) t (filter p grants)) × AreStanding world all (slot + 1) loads (granted_with (slot * world.platform.slot_cycles) p grants loads granted)
+pub fold_in : (world : World) (all_loads loads : List LoadName) (all : List Grant) (number at slot : ℕ) (R : (ℕ → Option ℕ) → (ℕ → PartState) → TileState → Type 0) → IsSite world all_loads loads all number → GoesAlong world world.platform.partition_slots (site_part world number loads) (slot * world.platform.slot_cycles) R → HaveParts (site_part world number loads) loads → (p : Grant → Bool) (grants : List Grant) (granted : ℕ → Option ℕ) (view : ℕ → PartState) (t : TileState) → AreLabelled grants → IsTile number at loads world.platform.partition_slots t → AreStarts p grants all slot loads granted → AreStanding world all (slot + 1) loads granted → R granted view t → R (granted_with (slot * world.platform.slot_cycles) p grants loads granted) (views_with world p grants loads (site_part world number loads) view) (fold (after_start world) t (filter p grants)) × IsTile number at loads world.platform.partition_slots (fold (after_start world) t (filter p grants)) × AreStanding world all (slot + 1) loads (granted_with (slot * world.platform.slot_cycles) p grants loads granted)
 fold_in world all_loads loads all number at slot R site goes have p [] granted view t labelled is starts standing holds =
-    (goes.by granted (granted_with (slot * world.platform.slot_cycles) p [] loads granted) view (views_with p [] loads (site_part world number loads) view) t (λ place. nothing (slice_get loads place) (granted place)) (λ place part is. unopened (slice_get loads place) (opened (site_part world number loads place) (view place)) (view place)) holds, is, λ place start begins. standing place start (sym (nothing (slice_get loads place) (granted place)) ∙ begins))
+    (goes.by granted (granted_with (slot * world.platform.slot_cycles) p [] loads granted) view (views_with world p [] loads (site_part world number loads) view) t (λ place. nothing (slice_get loads place) (granted place)) (λ place part is. unopened (slice_get loads place) (opened world (site_part world number loads place) (view place)) (view place)) holds, is, λ place start begins. standing place start (sym (nothing (slice_get loads place) (granted place)) ∙ begins))
   where
     nothing : (load : Option LoadName) (old : Option ℕ) → cond (touches p [] load) (Some (slot * world.platform.slot_cycles)) old ≡ old
     nothing None old = refl
@@ -67,17 +67,17 @@ fold_in world all_loads loads all number at slot R site goes have p (grant ∷ g
     let slots = world.platform.partition_slots in
     let parts = site_part world number loads in
     let keyed = loads_keyed world all_loads loads all number site in
-    let Goal : TileState → Type 0 = λ s. R (granted_with cycle p (grant ∷ grants) loads granted) (views_with p (grant ∷ grants) loads parts view) s × IsTile number at loads slots s × AreStanding world all (slot + 1) loads (granted_with cycle p (grant ∷ grants) loads granted) in
+    let Goal : TileState → Type 0 = λ s. R (granted_with cycle p (grant ∷ grants) loads granted) (views_with world p (grant ∷ grants) loads parts view) s × IsTile number at loads slots s × AreStanding world all (slot + 1) loads (granted_with cycle p (grant ∷ grants) loads granted) in
     elim (cases_Bool (p grant)) [
       | inr fails ↦
           let rest = fold_in world all_loads loads all number at slot R site goes have p grants granted view t (rest_apart grant grants labelled) is (λ k g at_k passes. starts (suc k) g at_k passes) standing holds in
           let P : List Grant → Type 0 = λ gs. Goal (fold (after_start world) t gs) in
-          let now : Goal (fold (after_start world) t (filter p grants)) = (goes.by (granted_with cycle p grants loads granted) (granted_with cycle p (grant ∷ grants) loads granted) (views_with p grants loads parts view) (views_with p (grant ∷ grants) loads parts view) _ (λ place. sym (touches_less p grant grants (slice_get loads place) (Some cycle) (granted place) fails)) (λ place part is. sym (touches_less p grant grants (slice_get loads place) (opened (parts place) (view place)) (view place) fails)) rest.0, rest.1, λ place start begins. rest.2 place start (touches_less p grant grants (slice_get loads place) (Some cycle) (granted place) fails ∙ begins)) in
+          let now : Goal (fold (after_start world) t (filter p grants)) = (goes.by (granted_with cycle p grants loads granted) (granted_with cycle p (grant ∷ grants) loads granted) (views_with world p grants loads parts view) (views_with world p (grant ∷ grants) loads parts view) _ (λ place. sym (touches_less p grant grants (slice_get loads place) (Some cycle) (granted place) fails)) (λ place part is. sym (touches_less p grant grants (slice_get loads place) (opened world (parts place) (view place)) (view place) fails)) rest.0, rest.1, λ place start begins. rest.2 place start (touches_less p grant grants (slice_get loads place) (Some cycle) (granted place) fails ∙ begins)) in
           subst P (sym (filter_out p grant grants fails)) now
       | inl passes ↦
           let begin = starts zero grant refl passes in
           let later : ℕ → Option ℕ = λ place. cond (is_of grant (slice_get loads place)) (Some cycle) (granted place) in
-          let after : ℕ → PartState = λ place. cond (is_of grant (slice_get loads place)) (opened (parts place) (view place)) (view place) in
+          let after : ℕ → PartState = λ place. cond (is_of grant (slice_get loads place)) (opened world (parts place) (view place)) (view place) in
           let still : AreStarts p grants all slot loads later = λ k g at_k passes'.
           let old = starts (suc k) g at_k passes' in
           record {
@@ -96,37 +96,37 @@ fold_in world all_loads loads all number at slot R site goes have p (grant ∷ g
             | false ↦ λ other begins. standing place start begins
           ] in
           let stand : AreStanding world all (slot + 1) loads later = λ place start begins. by_test place start (is_of grant (slice_get loads place)) refl begins in
-          let more : (place : ℕ) → views_with p grants loads parts after place ≡ views_with p (grant ∷ grants) loads parts view place = λ place.
+          let more : (place : ℕ) → views_with world p grants loads parts after place ≡ views_with world p (grant ∷ grants) loads parts view place = λ place.
           again (touches p grants (slice_get loads place)) (is_of grant (slice_get loads place)) (parts place) (view place)
-          ∙ touches_more p grant grants (slice_get loads place) (opened (parts place) (view place)) (view place) passes in
+          ∙ touches_more p grant grants (slice_get loads place) (opened world (parts place) (view place)) (view place) passes in
           let step : (s : TileState) → after_start world t grant ≡ s → R later after s → IsTile number at loads slots s → Goal (fold (after_start world) t (filter p (grant ∷ grants))) = λ s comes now its.
           let rest = fold_in world all_loads loads all number at slot R site goes have p grants later after s (rest_apart grant grants labelled) its still stand now in
-          let done : Goal (fold (after_start world) s (filter p grants)) = (goes.by (granted_with cycle p grants loads later) (granted_with cycle p (grant ∷ grants) loads granted) (views_with p grants loads parts after) (views_with p (grant ∷ grants) loads parts view) _ (λ place. sym (touches_more p grant grants (slice_get loads place) (Some cycle) (granted place) passes)) (λ place part is. sym (more place)) rest.0, rest.1, λ place start begins. rest.2 place start (touches_more p grant grants (slice_get loads place) (Some cycle) (granted place) passes ∙ begins)) in
+          let done : Goal (fold (after_start world) s (filter p grants)) = (goes.by (granted_with cycle p grants loads later) (granted_with cycle p (grant ∷ grants) loads granted) (views_with world p grants loads parts after) (views_with world p (grant ∷ grants) loads parts view) _ (λ place. sym (touches_more p grant grants (slice_get loads place) (Some cycle) (granted place) passes)) (λ place part is. sym (more place)) rest.0, rest.1, λ place start begins. rest.2 place start (touches_more p grant grants (slice_get loads place) (Some cycle) (granted place) passes ∙ begins)) in
           let P : List Grant → Type 0 = λ gs. Goal (fold (after_start world) t gs) in
           let Q : TileState → Type 0 = λ s. Goal (fold (after_start world) s (filter p grants)) in
           subst P (sym (filter_in p grant grants passes)) (subst Q (sym comes) done) in
           let by_place : (place : Option ℕ) → position (λ (load : LoadName). same_label load.label grant.label) loads ≡ place → Goal (fold (after_start world) t (filter p (grant ∷ grants))) = λ place. elim place as (λ place. position (λ (load : LoadName). same_label load.label grant.label) loads ≡ place → Goal (fold (after_start world) t (filter p (grant ∷ grants)))) [
             | None ↦ λ none.
                 step t (come_by world number at loads slots t grant None is none)
-                (goes.by granted later view after t (λ place. ap (λ b. cond b (Some cycle) (granted place)) (none_of loads grant place none)) (λ place part is. ap (λ b. cond b (opened (parts place) (view place)) (view place)) (none_of loads grant place none)) holds) is
+                (goes.by granted later view after t (λ place. ap (λ b. cond b (Some cycle) (granted place)) (none_of loads grant place none)) (λ place part is. ap (λ b. cond b (opened world (parts place) (view place)) (view place)) (none_of loads grant place none)) holds) is
             | Some i ↦ λ found.
                 let one = at_place_of parts loads grant i have found in
                 let absent = begin.absent i one.load one.there one.label in
                 let room = room_is world all_loads loads all number at (slot + 1) granted t grant begin.index i site is (goes.holds granted view t holds) standing begin.there begin.stands one absent in
                 let own = is_of_own parts loads grant i one in
-                step (installed t i one.part)
-                (come_by world number at loads slots t grant (Some i) is found ∙ ap (installed_if t i) one.part_is)
+                step (installed world t i one.part)
+                (come_by world number at loads slots t grant (Some i) is found ∙ ap (installed_if world t i) one.part_is)
                 (goes.comes granted later view after t i one.part holds room
                 (ap (λ b. cond b (Some cycle) (granted i)) own)
                 (λ place apart. ap (λ b. cond b (Some cycle) (granted place)) (not_of parts loads grant i place keyed one apart))
-                (ap (λ b. cond b (opened (parts i) (view i)) (view i)) own ∙ ap (λ (o : Option Part). opened o (view i)) one.part_is)
-                (λ place apart. ap (λ b. cond b (opened (parts place) (view place)) (view place)) (not_of parts loads grant i place keyed one apart)))
-                (tile_installed number at loads slots t i one.part is)
+                (ap (λ b. cond b (opened world (parts i) (view i)) (view i)) own ∙ ap (λ (o : Option Part). opened world o (view i)) one.part_is)
+                (λ place apart. ap (λ b. cond b (opened world (parts place) (view place)) (view place)) (not_of parts loads grant i place keyed one apart)))
+                (tile_installed world number at loads slots t i one.part is)
           ] in
           by_place (position (λ (load : LoadName). same_label load.label grant.label) loads) refl
     ]
   where
-    again : (rest same : Bool) (part : Option Part) (view : PartState) → cond rest (opened part (cond same (opened part view) view)) (cond same (opened part view) view) ≡ cond rest (opened part view) (cond same (opened part view) view)
+    again : (rest same : Bool) (part : Option Part) (view : PartState) → cond rest (opened world part (cond same (opened world part view) view)) (cond same (opened world part view) view) ≡ cond rest (opened world part view) (cond same (opened world part view) view)
     again true true None view = refl
     again true true (Some part) view = refl
     again true false part view = refl

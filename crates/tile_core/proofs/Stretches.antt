@@ -1,6 +1,6 @@
 -- The cycles of a slot in three stretches: rows of the microkernel, cycles of the part that is held, and
 -- rows again.
-use Rattle.std.proofs.Common.{◌≡◌, ℕ, zero, suc, ◌+◌, ◌-◌, ◌*◌, ◌/◌, ◌%◌, ◌<◌, ◌≤◌, true, cond, nat_lt, List, [], ◌++◌, length, slice_get, Option, Some, None, min, refl, sym, subst, ap, ap₂, ◌∙◌, inl, inr, arith}
+use Rattle.std.proofs.Common.{◌≡◌, ℕ, zero, suc, ◌+◌, ◌-◌, ◌*◌, ◌/◌, ◌%◌, ◌<◌, ◌≤◌, true, cond, nat_lt, List, ◌++◌, length, slice_get, Option, Some, None, min, refl, sym, subst, ap, ap₂, ◌∙◌, inl, inr, arith}
 use Rattle.std.proofs.lemmas.Bool.{cases_lt, lt-ltb, le-ltb}
 use Rattle.std.proofs.lemmas.List.{set-set, set-get_or, get_or-set_same}
 use Rattle.std.proofs.lemmas.Nat.{div-add-mod', div-mul-add, mod-mul-add, mod_below}
@@ -25,15 +25,16 @@ use Rattle.comik.specs.Kernel.{KernelState}
 use Rattle.comik.specs.Places.{frame_place, IsPlace}
 use Rattle.comik.specs.Table.{kernel_row, kernel_rows, kernel_cycle}
 use Rattle.comik.proofs.Laws.{row_parts}
-use Rattle.tile_core.proofs.Portless.{portless_stretch}
+use Rattle.tile_mmio.specs.Ports.{own_ports, put_ports, AreOwn}
+use Rattle.tile_mmio.proofs.Laws.{put_lost, put_same, own_put, length-own_ports}
 use Rattle.tile_core.specs.Tile.{TileState, place_at, load_part}
 use Rattle.tile_core.specs.Cycle.{core_place, words_of, held_state, with_state, run_part, run_place, run_held, tile_cycle}
 use Rattle.tile_core.specs.Fit.{IsMadeFor}
 use Rattle.tile_core.specs.inner.Stretch.{ran, ran_part, ran_place, ran_held}
 use Rattle.tile_core.proofs.Memory.{joined_region}
-use Rattle.part_model.proofs.Laws.{cycle_size as bytes_kept}
+use Rattle.part_model.proofs.Laws.{stretch_ports, cycle_ports, cycle_size as bytes_kept}
 use Rattle.tile_core.specs.inner.Ready.{IsSoundTile}
-use Rattle.tile_core.proofs.Made.{frame_is, load_part_inside, IsAlike, made_alike, parts_alike, cycles_kept}
+use Rattle.tile_core.proofs.Made.{frame_is, load_part_inside, load_part_own, IsAlike, made_alike, parts_alike, cycles_kept}
 
 -- cycles within one instance
 within : (f : FrameTimes) (c n : ℕ) → offset_at f c + n < instance_cycles f → (instance_at f (c + n) ≡ instance_at f c) × (offset_at f (c + n) ≡ offset_at f c + n)
@@ -81,26 +82,29 @@ rows_cycles parts costs c (suc n) t frame early =
 -- a state that is written back changes nothing
 still_state : (t : TileState) (place : ℕ) (part : Part) → with_state t place part (held_state t place part) ≡ t
 still_state t place part =
-    ap₂ (λ (memory : List ℕ) (logs : List Log). let u : TileState = record t { memory = memory; logs = logs } in u)
+    ap₂ (λ (memory : List ℕ) (logs : List Log). let u : TileState = record t { memory = memory; logs = logs; ports = put_ports t.ports part.ports (own_ports t.ports part.ports) } in u)
     (sym (joined_region t.memory t.memory (region_bytes t.memory part.region) part.region refl refl refl))
     (set-get_or t.logs place (new_log 0))
+    ∙ ap (λ (ports : List SizedPort). let u : TileState = record t { ports = ports } in u) (put_same t.ports part.ports)
 
 again_region : (memory one other : List ℕ) (region : Region) → IsInside memory region → length one ≡ region.len → with_region (with_region memory region one) region other ≡ with_region memory region other
 again_region memory one other region inside fits =
     ap₂ (λ (front back : List ℕ). front ++ (other ++ back)) (take-with_region memory region one inside) (drop-with_region memory region one inside fits)
 
 -- a state is written over an earlier one
-again_state : (t : TileState) (place : ℕ) (part : Part) (one other : PartState) → IsInside t.memory part.region → length one.bytes ≡ part.region.len → with_state (with_state t place part one) place part other ≡ with_state t place part other
-again_state t place part one other inside fits =
-    ap₂ (λ (memory : List ℕ) (logs : List Log). let u : TileState = record t { kernel = record t.kernel { file = words_of other }; memory = memory; logs = logs } in u)
+again_state : (t : TileState) (place : ℕ) (part : Part) (one other : PartState) → IsInside t.memory part.region → length one.bytes ≡ part.region.len → length other.ports ≡ length part.ports → with_state (with_state t place part one) place part other ≡ with_state t place part other
+again_state t place part one other inside fits size =
+    ap₂ (λ (memory : List ℕ) (logs : List Log). let u : TileState = record t { kernel = record t.kernel { file = words_of other }; memory = memory; logs = logs; ports = put_ports (put_ports t.ports part.ports one.ports) part.ports other.ports } in u)
     (again_region t.memory one.bytes other.bytes part.region inside fits) (set-set t.logs place one.log other.log)
+    ∙ ap (λ (ports : List SizedPort). let u : TileState = record (with_state t place part other) { ports = ports } in u)
+    (put_lost t.ports part.ports one.ports part.ports other.ports size (λ j number found. (j, found)))
 
 -- and is read back
-read_state : (t : TileState) (place : ℕ) (part : Part) (state : PartState) → IsInside t.memory part.region → length state.bytes ≡ part.region.len → state.ports ≡ [] → place < length t.logs → held_state (with_state t place part state) place part ≡ state
-read_state t place part state inside fits none logged =
-    ap₂ (λ (bytes : List ℕ) (log : Log). let s : PartState = record state { bytes = bytes; ports = []; log = log } in s)
+read_state : (t : TileState) (place : ℕ) (part : Part) (state : PartState) → IsInside t.memory part.region → length state.bytes ≡ part.region.len → AreOwn t.ports part.ports → length state.ports ≡ length part.ports → place < length t.logs → held_state (with_state t place part state) place part ≡ state
+read_state t place part state inside fits own size logged =
+    ap₂ (λ (bytes : List ℕ) (log : Log). let s : PartState = record state { bytes = bytes; ports = own_ports (put_ports t.ports part.ports state.ports) part.ports; log = log } in s)
     (region-with_region t.memory part.region state.bytes inside fits) (get_or-set_same t.logs place state.log (new_log 0) logged)
-    ∙ ap (λ (ports : List SizedPort). let s : PartState = record state { ports = ports } in s) (sym none)
+    ∙ ap (λ (ports : List SizedPort). let s : PartState = record state { ports = ports } in s) (own_put t.ports part.ports state.ports own size)
 
 ran_fits : (costs : Costs) (c n : ℕ) (part : Part) (state : PartState) → length (ran costs c n part state).bytes ≡ length state.bytes
 unfolding after_steps
@@ -114,7 +118,7 @@ late_cycle parts costs c t held late is =
     ∙ ap (run_held parts costs c t) is
 
 -- the part of a place has its cycles one by one
-part_more : (parts : ℕ → Option Part) (costs : Costs) (c n : ℕ) (t : TileState) (number place : ℕ) (part : Option Part) → t.kernel.times.kernel ≤ offset_at t.kernel.times (c + n) → t.kernel.held ≡ Some number → place_at t number ≡ Some place → parts place ≡ part → ((p : Part) → parts place ≡ Some p → IsInside t.memory p.region × (place < length t.logs)) → tile_cycle parts costs (c + n) (ran_part costs c n t place part) ≡ ran_part costs c (suc n) t place part
+part_more : (parts : ℕ → Option Part) (costs : Costs) (c n : ℕ) (t : TileState) (number place : ℕ) (part : Option Part) → t.kernel.times.kernel ≤ offset_at t.kernel.times (c + n) → t.kernel.held ≡ Some number → place_at t number ≡ Some place → parts place ≡ part → ((p : Part) → parts place ≡ Some p → IsInside t.memory p.region × (place < length t.logs) × AreOwn t.ports p.ports) → tile_cycle parts costs (c + n) (ran_part costs c n t place part) ≡ ran_part costs c (suc n) t place part
 unfolding after_steps
 part_more parts costs c n t number place None late held at is fine =
     late_cycle parts costs (c + n) t (Some number) late held
@@ -126,15 +130,18 @@ part_more parts costs c n t number place (Some part) late held at is fine =
     let u = with_state t place part now in
     let good = fine part is in
     let fits : length now.bytes ≡ part.region.len = ran_fits costs c n part state ∙ length-region_bytes t.memory part.region good.0 in
+    let size : length now.ports ≡ length part.ports = (stretch_ports costs (core_place part) c n state).count ∙ length-own_ports t.ports part.ports in
+    let next = part_cycle costs (core_place part) (c + n) now in
+    let more : length next.ports ≡ length part.ports = (cycle_ports costs (core_place part) (c + n) now).count ∙ size in
     late_cycle parts costs (c + n) u (Some number) late held
     ∙ ap (run_place parts costs (c + n) u) at
     ∙ ap (run_part costs (c + n) u place) is
-    ∙ ap (λ (s : PartState). with_state u place part (part_cycle costs (core_place part) (c + n) s)) (read_state t place part now good.0 fits (portless_stretch costs (core_place part) c n state refl) good.1)
-    ∙ again_state t place part now (part_cycle costs (core_place part) (c + n) now) good.0 fits
+    ∙ ap (λ (s : PartState). with_state u place part (part_cycle costs (core_place part) (c + n) s)) (read_state t place part now good.0 fits good.2 size good.1)
+    ∙ again_state t place part now next good.0 fits more
 
 -- what a place's part needs for its cycles
 abbrev pub AreFine : (ℕ → Option Part) → TileState → Type 0
-AreFine parts t = (place : ℕ) (p : Part) → parts place ≡ Some p → IsInside t.memory p.region × (place < length t.logs)
+AreFine parts t = (place : ℕ) (p : Part) → parts place ≡ Some p → IsInside t.memory p.region × (place < length t.logs) × AreOwn t.ports p.ports
 
 place_more : (parts : ℕ → Option Part) (costs : Costs) (c n : ℕ) (t : TileState) (number : ℕ) (place : Option ℕ) → t.kernel.times.kernel ≤ offset_at t.kernel.times (c + n) → t.kernel.held ≡ Some number → place_at t number ≡ place → AreFine parts t → tile_cycle parts costs (c + n) (ran_place parts costs c n t place) ≡ ran_place parts costs c (suc n) t place
 place_more parts costs c n t number None late held at fine =
@@ -175,7 +182,7 @@ fine_parts world loads t sound made place part is =
     let low = slice_get_within t.loads place load there in
     let size = made.logs in
     let logged : place < length t.logs = omega arith in
-    (load_part_inside world loads t place part sound made is, logged))
+    (load_part_inside world loads t place part sound made is, logged, load_part_own world loads t place part sound made is))
 
 pub some_rows : (parts : ℕ → Option Part) (costs : Costs) (c n : ℕ) (t : TileState) → IsFrame t.kernel.times → (0 < n → offset_at t.kernel.times c + n ≤ t.kernel.times.kernel) → record t { kernel = kernel_rows t.kernel (served_at t.kernel.times c) (offset_at t.kernel.times c) n } ≡ after_steps (tile_cycle parts costs) c n t
 unfolding after_steps
@@ -203,6 +210,8 @@ rows_alike t served offset n = record {
   places = refl;
   loads = refl;
   logs = refl;
+  ports = refl;
+  carried = refl;
 }
 
 sound_alike : (world : World) (t after : TileState) → IsAlike t after → IsSoundTile world t → IsSoundTile world after

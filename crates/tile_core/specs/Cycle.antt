@@ -6,6 +6,7 @@ use Rattle.bundle_model.specs.declared.bundle.Part.{Part}
 use Rattle.comik.specs.declared.context.Context.{Context}
 use Rattle.comik.specs.Table.{kernel_cycle}
 use Rattle.tile_memory.specs.Bytes.{with_region}
+use Rattle.tile_mmio.specs.Ports.{put_ports}
 use Rattle.part_model.specs.declared.record.Place.{Place}
 use Rattle.part_model.specs.Part.{PartState, part_cycle}
 use Rattle.tile_core.specs.Tile.{TileState, place_at, state_with}
@@ -28,6 +29,7 @@ with_state tile place part state = record tile {
   kernel = record tile.kernel { file = words_of state };
   memory = with_region tile.memory part.region state.bytes;
   logs = slice_set tile.logs place state.log;
+  ports = put_ports tile.ports part.ports state.ports;
 }
 
 -- The tile after a cycle of the part that is held, if one is: its number leads to the place of its load,

@@ -1,5 +1,5 @@
 -- What is installed on a tile, and what a tile needs for a slot.
-use Rattle.std.specs.Prelude.{◌≡◌, ℕ, ◌*◌, ◌<◌, ◌≤◌, ◌==◌, ◌&&◌, List, find, length, slice_get, option_map, Option, Some, IsSome}
+use Rattle.std.specs.Prelude.{◌≡◌, ℕ, ◌*◌, ◌<◌, ◌≤◌, ◌==◌, ◌&&◌, All, List, find, length, slice_get, option_map, Option, Some, IsSome}
 use Rattle.std.specs.Option.{option_and_then}
 use Rattle.std.specs.Int.{bit_at}
 use Rattle.soc_base.specs.declared.label.Label.{Label}
@@ -13,6 +13,7 @@ use Rattle.bundle_model.specs.declared.world.Schedule.{Schedule}
 use Rattle.bundle_model.specs.Grants.{IsApart, stands_at}
 use Rattle.bundle_model.specs.World.{IsSoundWorld, AreOfLoads, same_label}
 use Rattle.comik.specs.Kernel.{IsInstalled, owner_at, has}
+use Rattle.grant_tables.specs.Tables.{AreTabled}
 use Rattle.tile_core.specs.Tile.{TileState, number_of, place_at, load_part, loads_on}
 
 -- the grant of a load that stands at the beginning of a slot, if there is one
@@ -53,10 +54,12 @@ pub record AreInstalled (slots : ℕ) (parts : ℕ → Option Part) (granted : �
   pub known : (number place : ℕ) → place_at tile number ≡ Some place → IsNumberOf parts granted place number
   pub owned : (slot number : ℕ) → owner_at tile.kernel slot ≡ Some number → IsSome (place_at tile number)
 
--- installed on the tile are exactly the grants that stand at its slot
-abbrev pub IsFit : World → List Grant → TileState → Type 0
-IsFit world grants tile =
-    AreInstalled world.platform.partition_slots (load_part world tile) (granted_from world grants tile.at tile) tile
+-- installed on the tile are exactly the grants that stand at its slot: their parts, and their entries in the
+-- slot tables
+pub record IsFit (world : World) (grants : List Grant) (tile : TileState) : Type 0 where
+  pub parts : AreInstalled world.platform.partition_slots (load_part world tile)
+      (granted_from world grants tile.at tile) tile
+  pub tables : AreTabled world grants tile.at tile.number tile.tables
 
 -- the tile was made for this world and these loads
 pub record IsMadeFor (world : World) (loads : List LoadName) (tile : TileState) : Type 0 where
@@ -67,6 +70,10 @@ pub record IsMadeFor (world : World) (loads : List LoadName) (tile : TileState) 
   pub places : length tile.places ≡ world.platform.partition_slots
   pub its_loads : tile.loads ≡ loads_on world tile.number loads
   pub logs : length tile.logs ≡ length tile.loads
+  pub ports : length tile.ports ≡ world.platform.ports
+  pub queues : All (λ port. port.queue ≡ world.platform.queue) tile.ports
+  pub outputs : length tile.carried ≡ 7
+  pub counts : All (λ count. count ≤ tile.at) tile.carried
 
 -- What a tile needs to go on by a schedule: the world is sound and the tile was made for it and its
 -- loads, the grants are apart and of these loads, what is installed is theirs, and the horizon isn't after

@@ -1,5 +1,5 @@
 -- What a tile holds of parts that are each of their own.
-use Rattle.std.specs.Prelude.{◌≡◌, ℕ, ◌*◌, ◌<◌, List, [], length, Option, Some}
+use Rattle.std.specs.Prelude.{◌≡◌, ℕ, ◌*◌, ◌<◌, List, length, Option, Some}
 use Rattle.soc_base.specs.Time.{FrameTimes, offset_at}
 use Rattle.platform_model.specs.Platform.{frame_of}
 use Rattle.bundle_model.specs.declared.bundle.Part.{Part}
@@ -10,17 +10,18 @@ use Rattle.comik.specs.Turn.{TurnOf}
 use Rattle.tile_memory.specs.Bytes.{IsInside, region_bytes}
 use Rattle.trace_log.specs.Log.{Log}
 use Rattle.part_model.specs.Part.{PartState}
+use Rattle.tile_mmio.specs.Ports.{own_ports, AreOwn}
 use Rattle.tile_core.specs.Tile.{TileState, number_of, log_at, load_part}
 use Rattle.tile_core.specs.Cycle.{words_of}
 use Rattle.tile_core.specs.Fit.{AreInstalled, granted_from}
 
--- an installed part before a cycle: its words, the bytes of its region, its ports, of which it has none yet,
--- and its start by its number
+-- an installed part before a cycle: its words, the bytes of its region, its ports, and its start by its
+-- number
 pub record IsHere (times : FrameTimes) (starts : ℕ → ℕ) (cycle : ℕ) (tile : TileState)
     (part : Part) (start : ℕ) (view : PartState) : Type 0 where
   pub words : context_of tile.kernel (offset_at times cycle) (number_of part) ≡ words_of view
   pub bytes : region_bytes tile.memory part.region ≡ view.bytes
-  pub ports : view.ports ≡ []
+  pub ports : own_ports tile.ports part.ports ≡ view.ports
   pub start_is : starts (number_of part) ≡ start
 
 -- the log at a place
@@ -39,6 +40,7 @@ pub record Holds (times : FrameTimes) (parts : ℕ → Option Part) (granted : �
   pub turn : TurnOf tile.kernel starts cycle
   pub installed : AreInstalled times.slots parts granted tile
   pub inside : (place : ℕ) (part : Part) → parts place ≡ Some part → IsInside tile.memory part.region
+  pub own : (place : ℕ) (part : Part) → parts place ≡ Some part → AreOwn tile.ports part.ports
   pub here : (place : ℕ) (part : Part) (start : ℕ) → parts place ≡ Some part → granted place ≡ Some start
       → IsHere times starts cycle tile part start (view place)
   pub logs : (place : ℕ) (part : Part) → parts place ≡ Some part → IsLogged tile place (view place).log

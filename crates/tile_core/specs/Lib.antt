@@ -6,4 +6,5 @@ pub mod Fit
 pub mod Views
 pub mod Holds
 pub mod Law
+pub mod Paced
 pub mod inner

@@ -1,5 +1,5 @@
 -- A tile between two slots, and what can be asked of it.
-use Rattle.std.specs.Prelude.{ℕ, ◌*◌, ◌==◌, Bool, false, List, [], filter, get_or, if◌then◌else◌, map, option_map, position, replicate, slice_get, Option, Some, None, is_some}
+use Rattle.std.specs.Prelude.{ℕ, ◌*◌, ◌==◌, Bool, false, List, filter, get_or, if◌then◌else◌, map, option_map, position, replicate, slice_get, Option, Some, None, is_some}
 use Rattle.std.specs.Option.{option_and_then, option_map_or}
 use Rattle.soc_base.specs.Time.{offset_at}
 use Rattle.soc_base.specs.declared.label.Label.{Label}
@@ -13,12 +13,18 @@ use Rattle.comik.specs.Kernel.{KernelState, fresh_kernel, least_slot}
 use Rattle.comik.specs.Switching.{context_of}
 use Rattle.tile_memory.specs.Bytes.{region_bytes}
 use Rattle.trace_log.specs.Log.{Log, new_log}
+use Rattle.soc_base.specs.Port.{free_port}
+use Rattle.ni_port.specs.SizedPort.{SizedPort}
+use Rattle.tile_mmio.specs.Ports.{own_ports}
+use Rattle.tdm_network.specs.declared.rows.Row.{Row}
+use Rattle.tdm_network.specs.Rows.{free_rows}
 use Rattle.part_model.specs.Part.{PartState}
 
 -- A tile: its number; its next slot; its microkernel, with the register file and the frames; the bytes of
 -- its memory; for each part number the place, among the tile's loads, of the load whose part is installed
--- with that number; the loads of the run that have a part on the tile, in their order; and the log of each
--- of these parts. The loads never change.
+-- with that number; the loads of the run that have a part on the tile, in their order; the log of each of
+-- these parts; the ports of its network interface; its slot tables; and for each output how many flits other
+-- than idle it carried. The loads never change.
 pub record TileState : Type 0 where
   pub number : ℕ
   pub at : ℕ
@@ -27,6 +33,9 @@ pub record TileState : Type 0 where
   pub places : List (Option ℕ)
   pub loads : List LoadName
   pub logs : List Log
+  pub ports : List SizedPort
+  pub tables : List Row
+  pub carried : List ℕ
 
 -- the loads that have a part on a tile
 abbrev pub loads_on : World → ℕ → List LoadName → List LoadName
@@ -36,8 +45,12 @@ loads_on world number loads = filter (λ load. is_some (part_on world number loa
 abbrev pub fresh_log : World → ℕ → LoadName → Log
 fresh_log world number load = new_log (option_map_or (λ part. part.trace) (part_on world number load.bundle) 0)
 
--- a tile before its first slot: its memory, its register file and its frames are zero, and nothing is
--- installed
+-- a port that no application holds, with so many places in each queue
+abbrev pub free_sized : ℕ → SizedPort
+free_sized queue = record { queue = queue; port = free_port }
+
+-- a tile before its first slot: its memory, its register file and its frames are zero, nothing is
+-- installed, its ports and its slot tables are free, and nothing was carried
 unfoldable pub fresh_tile : World → List LoadName → ℕ → TileState
 fresh_tile world loads number = record {
   number = number;
@@ -47,6 +60,9 @@ fresh_tile world loads number = record {
   places = replicate world.platform.partition_slots None;
   loads = loads_on world number loads;
   logs = map (fresh_log world number) (loads_on world number loads);
+  ports = replicate world.platform.ports (free_sized world.platform.queue);
+  tables = free_rows world.platform.table_slots;
+  carried = replicate 7 0;
 }
 
 -- the number of a part: the least of its partition slots
@@ -78,14 +94,13 @@ owner_of tile number = option_map (λ load. load.label) (option_and_then (slice_
 abbrev pub log_of : TileState → Label → Option Log
 log_of tile label = option_and_then (slice_get tile.logs) (load_place tile label)
 
--- a part as it is with these words: registers, cycles left, the bytes of its region, its log. A tile has no
--- ports yet.
+-- a part as it is with these words: registers, cycles left, the bytes of its region, its ports, its log
 abbrev pub state_with : TileState → ℕ → Part → Context → PartState
 state_with tile place part words = record {
   regs = words.regs;
   left = words.left;
   bytes = region_bytes tile.memory part.region;
-  ports = [];
+  ports = own_ports tile.ports part.ports;
   log = log_at tile place;
 }
 

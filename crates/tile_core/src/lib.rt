@@ -2,10 +2,11 @@
 //! them.
 //!
 //! `specs/Tile` says what a tile is between two slots and what it answers, `specs/Cycle` what it does in a
-//! cycle, `specs/Slot` in a slot (grants that end, grants that begin, and its cycles one by one),
-//! `specs/Lockstep` how all tiles go on together, and `specs/Fit` which grants are installed and what a
-//! tile needs for a slot. `specs/Views`, `specs/Holds` and `specs/Law` state the law: a tile holds each of
-//! its parts as that part is by itself. `specs/inner` has words of the code's own functions.
+//! cycle, `specs/Slot` in a slot (grants that end, grants that begin, the injection, its cycles one by one,
+//! the delivery, what its outputs carry), `specs/Lockstep` how all tiles go on together, and `specs/Fit`
+//! which grants are installed and what a tile needs for a slot. `specs/Views`, `specs/Holds` and `specs/Law`
+//! state the law: a tile holds each of its parts as that part is by itself. `specs/Paced` says that a slot
+//! looks at nothing later. `specs/inner` has words of the code's own functions.
 #![tactic(auto)]
 
 /// The law.
@@ -19,6 +20,6 @@ mod tile;
 #[cfg(test)]
 mod tests;
 
-pub use law::tile_holds;
+pub use law::{tile_fits, tile_holds, tiles_are_paced};
 pub use station::Station;
 pub use tile::Tile;

@@ -9,6 +9,9 @@ ghost use Rattle.bundle_model.specs.WellFormed.{IsWellFormed};
 ghost use Rattle.soc_base.specs.declared.limits.TheConstants.{LAST_CYCLE};
 ghost use Rattle.tile_core.specs.Fit.{IsMadeFor, IsFit};
 
+/// Flits of ports, over two tiles.
+mod network;
+
 use crate::tile::Tile;
 use bundle_model::{
     Bundle, Grant, LoadName, Named, RawBundle, RawPart, Resource, Schedule, World, check, meets,
@@ -75,6 +78,20 @@ fn named(alloc: Global, name: &str, bundle: Bundle) -> Result<Named, Fail>
     })
 }
 
+// A bundle, and one in partition slot 1 of tile 0 from byte 64 on.
+fn world_with(alloc: Global, platform: Platform, first: Bundle) -> Result<World, Fail>
+    requires { IsWellFormed platform first }
+    ensures sound { IfOk result IsSoundCatalog }
+    ensures two { IfOk result (λ world. length world.catalog ≡ 2) }
+{
+    let first = named(alloc, "first", first)?;
+    let second = named(alloc, "second", bundle(alloc, &platform, 1, 64)?)?;
+    Ok(World {
+        platform,
+        catalog: Items::from_vec(vec![in alloc; first, second]?),
+    })
+}
+
 // The plain platform, whose two partition slots are served from cycles 72 and 200 on, and again 256
 // cycles later, and two bundles: one in partition slot 0 from byte 0 on, and one in partition slot 1
 // from byte 64 on.
@@ -83,12 +100,8 @@ fn world(alloc: Global) -> Result<World, Fail>
     ensures two { IfOk result (λ world. length world.catalog ≡ 2) }
 {
     let platform = Platform::plain(alloc)?;
-    let first = named(alloc, "first", bundle(alloc, &platform, 0, 0)?)?;
-    let second = named(alloc, "second", bundle(alloc, &platform, 1, 64)?)?;
-    Ok(World {
-        platform,
-        catalog: Items::from_vec(vec![in alloc; first, second]?),
-    })
+    let first = bundle(alloc, &platform, 0, 0)?;
+    world_with(alloc, platform, first)
 }
 
 // What a grant holds.
@@ -146,9 +159,33 @@ fn schedule<A: Abort>(
     Ok(Schedule { grants, horizon })
 }
 
-// Does all slots of a tile up to the schedule's horizon.
-#[tactic(auto, using(crate::proofs::Made::slot_at))]
-fn run_slots(world: &World, loads: &[LoadName], schedule: &Schedule, tile: &mut Tile)
+const IDLE: Flit = Flit {
+    word: None,
+    credits: 0,
+};
+
+// What the inputs carry in a slot: from slot `from` on input 1 has the slot's number.
+fn inputs_in(slot: u64, from: u64) -> [Flit; 7] {
+    let mut inputs = [IDLE; 7];
+    if slot >= from {
+        inputs[1] = Flit {
+            word: Some((slot % 64) as u32),
+            credits: 0,
+        };
+    }
+    inputs
+}
+
+// Does all slots of a tile up to the schedule's horizon, and answers the last flit with a word that it put on
+// its output 0, with the slot in which it did so.
+#[tactic(auto, using(crate::proofs::SlotMade::slot_at))]
+fn run_slots(
+    world: &World,
+    loads: &[LoadName],
+    schedule: &Schedule,
+    tile: &mut Tile,
+    from: u64,
+) -> Option<(u64, Flit)>
     requires sound { IsSoundWorld world.now loads.now }
     requires made { IsMadeFor world.now loads.now tile.old }
     requires apart { IsApart world.now schedule.now.grants.items }
@@ -158,17 +195,55 @@ fn run_slots(world: &World, loads: &[LoadName], schedule: &Schedule, tile: &mut 
     requires bounded { schedule.now.horizon * world.now.platform.slot_cycles ≤ LAST_CYCLE }
     ensures { IsMadeFor world.now loads.now tile.new }
 {
-    let idle = [Flit {
-        word: None,
-        credits: 0,
-    }; 7];
-    for _slot in 0..schedule.horizon {
-        let _outputs = tile.slot(world, schedule, &idle);
+    let mut sent = None;
+    for slot in 0..schedule.horizon {
+        let inputs = inputs_in(slot, from);
+        let outputs = tile.slot(world, schedule, &inputs);
+        let flit = outputs[0];
+        if flit.word.is_some() {
+            sent = Some((slot, flit));
+        }
     }
+    sent
 }
 
-// Follows a tile with both loads from its beginning over so many slots.
-#[tactic(auto, using(crate::proofs::Fresh::fresh_made, crate::proofs::Fresh::fresh_fits, crate::proofs::Fresh::fresh_at))]
+// A tile after its slots, and the last word that it put on its output 0.
+#[derive(Drop)]
+struct FedTile {
+    tile: Tile,
+    sent: Option<(u64, Flit)>,
+}
+
+// Follows a tile with both loads from its beginning over so many slots, with words on input 1 from a slot on.
+#[tactic(auto, using(crate::proofs::FreshMade::fresh_made, crate::proofs::Fresh::fresh_fits, crate::proofs::Fresh::fresh_at))]
+fn fed<A: Abort>(
+    rt: &A,
+    alloc: Global,
+    world: &World,
+    first: Grant,
+    second: Grant,
+    slots: u64,
+    from: u64,
+) -> Result<FedTile, Fail>
+    requires sound { IsSoundCatalog world.now }
+    requires two { length world.now.catalog ≡ 2 }
+    requires labels { (first.label ≡ record { session = 1; load = 1 }) × (second.label ≡ record { session = 1; load = 2 }) }
+    requires bundles { (first.bundle ≡ 0) × (second.bundle ≡ 1) }
+    requires begins { IfSome first.end (λ end. first.start ≤ end) }
+    requires follows { IfSome second.end (λ end. second.start ≤ end) }
+    requires bounded { slots * world.now.platform.slot_cycles ≤ LAST_CYCLE }
+    ensures memory { IfOk result (λ done. length done.tile.memory ≡ world.now.platform.mem_bytes) }
+    ensures ports { IfOk result (λ done. length done.tile.ports ≡ world.now.platform.ports) }
+{
+    let loads = [FIRST, SECOND];
+    let schedule = schedule(rt, alloc, world, first, second, slots)?;
+    let mut tile = Tile::new(alloc, world, &loads, 0)?;
+    let sent = run_slots(world, &loads, &schedule, &mut tile, from);
+    assert_eq!(rt; tile.at(), slots);
+    Ok(FedTile { tile, sent })
+}
+
+// The same with idle inputs.
 fn followed<A: Abort>(
     rt: &A,
     alloc: Global,
@@ -186,12 +261,8 @@ fn followed<A: Abort>(
     requires bounded { slots * world.now.platform.slot_cycles ≤ LAST_CYCLE }
     ensures { IfOk result (λ tile. length tile.memory ≡ world.now.platform.mem_bytes) }
 {
-    let loads = [FIRST, SECOND];
-    let schedule = schedule(rt, alloc, world, first, second, slots)?;
-    let mut tile = Tile::new(alloc, world, &loads, 0)?;
-    run_slots(world, &loads, &schedule, &mut tile);
-    assert_eq!(rt; tile.at(), slots);
-    Ok(tile)
+    let done = fed(rt, alloc, world, first, second, slots, slots)?;
+    Ok(done.tile)
 }
 
 // A grant of a load.

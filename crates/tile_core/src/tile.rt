@@ -1,9 +1,9 @@
 //! A tile, slot by slot.
 
-ghost use Rattle.std.specs.Prelude.{◌≡◌, List, filter, map, is_some, IfOk};
+ghost use Rattle.std.specs.Prelude.{◌≡◌, ◌<◌, ◌≤◌, List, filter, map, replicate, is_some, IfOk};
 ghost use Rattle.std.specs.Option.{option_copied};
 ghost use Rattle.bundle_model.specs.World.{part_on};
-ghost use Rattle.tile_core.specs.Tile.{loads_on, fresh_log};
+ghost use Rattle.tile_core.specs.Tile.{loads_on, fresh_log, free_sized};
 
 /// The cycles of a slot.
 mod cycles;
@@ -11,16 +11,21 @@ mod cycles;
 mod grants;
 /// Finding loads and their parts.
 mod loads;
+/// Flits that the ports of a tile inject and receive.
+mod network;
 
 use bundle_model::{LoadName, Schedule, World};
 use comik::Kernel;
+use ni_port::Port;
 use soc_base::{Flit, Label, NoMemory};
 use std::alloc::Global;
 use std::marker::Model;
+use tdm_network::{Outputs, SlotTables};
 use tile_memory::TileMemory;
 use trace_log::PartLog;
 
-/// A tile: its microkernel, its memory, and what it keeps of each load with a part on it.
+/// A tile: its microkernel, its memory, what it keeps of each load with a part on it, and the ports of its
+/// network interface with the slot tables.
 #[derive(Drop)]
 pub struct Tile {
     number: u8,
@@ -31,6 +36,10 @@ pub struct Tile {
     numbers: Vec<Option<usize>>,
     names: Vec<LoadName>,
     part_logs: Vec<PartLog>,
+    ports: Vec<Port>,
+    tables: SlotTables,
+    // How many flits other than idle each output carried.
+    carried: [u64; 7],
 }
 
 impl Model for Tile {
@@ -38,7 +47,7 @@ impl Model for Tile {
 
     ghost Value = { TileState };
 
-    ghost view = { λ t. record { number = t.number; at = t.slot; kernel = t.microkernel; memory = t.bytes; places = t.numbers.items; loads = t.names.items; logs = t.part_logs.items } };
+    ghost view = { λ t. record { number = t.number; at = t.slot; kernel = t.microkernel; memory = t.bytes; places = t.numbers.items; loads = t.names.items; logs = t.part_logs.items; ports = t.ports.items; tables = t.tables; carried = t.carried } };
 }
 
 // The loads with a part on a tile.
@@ -86,17 +95,31 @@ fn fresh_logs(
     Ok(logs)
 }
 
+// Ports that no application holds, with `queue` places in each queue.
+fn free_ports(alloc: Global, count: u8, queue: u8) -> Result<Vec<Port>, NoMemory>
+    requires some { 0 < queue }
+    requires most { queue ≤ 63 }
+    ensures { IfOk result (λ ports. ports.items ≡ replicate count (free_sized queue)) }
+{
+    let mut ports = Vec::with_capacity(alloc, usize::from(count))?;
+    for _number in 0..count {
+        ports.push_reserved(Port::new(alloc, queue)?);
+    }
+    Ok(ports)
+}
+
 impl Tile {
-    ghost use Rattle.std.specs.Prelude.{◌+◌, ◌*◌, ◌^◌, ◌<◌, length};
+    ghost use Rattle.std.specs.Prelude.{◌+◌, ◌*◌, ◌^◌, length, get_or, slice_get, Some};
     ghost use Rattle.bundle_model.specs.declared.world.LoadName.{LoadName};
     ghost use Rattle.bundle_model.specs.World.{IsSoundWorld};
     ghost use Rattle.tile_core.specs.Tile.{fresh_tile, log_of, owner_of};
-    ghost use Rattle.tile_core.specs.Slot.{tile_slot, slot_outputs};
+    ghost use Rattle.tile_core.specs.Slot.{with_injection, with_cycles, traffic, tile_slot, slot_outputs};
     ghost use Rattle.tile_core.specs.Fit.{IsMadeFor, IsFit, IsUnderway, IsReady};
+    ghost use Rattle.tile_core.specs.inner.Ready.{IsSoundTile};
 
     /// Makes a tile of a world, counted from 0, before its first slot, and takes all its memory: its own, a
-    /// frame for each partition slot, and a log for each load with a part on it. The loads are those of
-    /// the run. `NoMemory` where there is none for them.
+    /// frame for each partition slot, a log for each load with a part on it, the queues of its ports, and its
+    /// slot tables. The loads are those of the run. `NoMemory` where there is none for them.
     #[tactic(auto, unfolding(crate::specs::Tile::fresh_tile))]
     pub fn new(alloc: Global, world: &World, loads: &[LoadName], tile: u8) -> Result<Tile, NoMemory>
         requires sound { IsSoundWorld world.now loads.now }
@@ -109,6 +132,8 @@ impl Tile {
         let numbers = Vec::from_elem(alloc, None, usize::from(platform.partition_slots))?;
         let names = loads_on(alloc, world, loads, tile)?;
         let part_logs = fresh_logs(alloc, world, names.as_slice(), tile)?;
+        let ports = free_ports(alloc, platform.ports, platform.queue)?;
+        let tables = SlotTables::new(alloc, platform.table_slots)?;
         Ok(Tile {
             number: tile,
             slot: 0,
@@ -117,39 +142,54 @@ impl Tile {
             numbers,
             names,
             part_logs,
+            ports,
+            tables,
+            carried: [0; 7],
         })
     }
 
-    // Does what happens in the next slot.
-    #[tactic(auto, using(crate::proofs::Ready::settled_tile), unfolding(crate::specs::Slot::tile_slot))]
-    fn advance(&mut self, world: &World, schedule: &Schedule)
+    // Lets a port inject, does the cycles of the next slot, and answers what its flits come to.
+    #[tactic(auto, using(crate::proofs::Ready::injected_tile))]
+    fn work(&mut self, world: &World, inputs: &[Flit; 7]) -> Outputs
+        requires tile { IsSoundTile world.now self.old }
+        requires bounded { (self.old.at + 1) * world.now.platform.slot_cycles < 2 ^ 64 }
+        ensures tile { self.new ≡ with_cycles world.now (with_injection self.old) }
+        ensures traffic { result ≡ traffic inputs.now self.old }
+    {
+        let outputs = self.exchange(inputs);
+        self.cycles(world);
+        outputs
+    }
+
+    // Does what happens in the next slot, and answers what the outputs carry in the one after.
+    #[tactic(auto, unfolding(crate::specs::Slot::tile_slot, crate::specs::Slot::slot_outputs))]
+    fn advance(&mut self, world: &World, schedule: &Schedule, inputs: &[Flit; 7]) -> [Flit; 7]
         requires underway { IsUnderway world.now schedule.now self.old }
         requires bounded { (self.old.at + 1) * world.now.platform.slot_cycles < 2 ^ 64 }
         requires counted { self.old.at + 1 < 2 ^ 64 }
-        ensures { self.new ≡ tile_slot world.now schedule.now.grants.items self.old }
+        ensures slot { self.new ≡ tile_slot world.now schedule.now.grants.items inputs.now self.old }
+        ensures outputs { result ≡ slot_outputs world.now schedule.now.grants.items inputs.now self.old }
     {
         let next = self.slot + 1;
         self.settle(world, schedule);
-        self.cycles(world);
+        let outputs = self.work(world, inputs);
+        self.finish(&outputs);
         self.slot = next;
+        outputs.links
     }
 
     /// Does the tile's next slot by a schedule that agrees with those of earlier slots and whose horizon
-    /// is above the slot. Takes what its links bring in the slot, by the router's inputs 0 to 6, and
-    /// answers what it puts on its outputs 0 to 6 for the next one: for now no input is read and every
-    /// output is idle. Takes no memory.
-    pub fn slot(&mut self, world: &World, schedule: &Schedule, _inputs: &[Flit; 7]) -> [Flit; 7]
+    /// is above the slot. Takes the flits that its links bring in the slot, by the router's inputs 0 to 6
+    /// (idle where an input has no link), and answers those that its outputs 0 to 6 carry in the slot after.
+    /// What is delivered to its ports they have at the end of the slot. Takes no memory.
+    pub fn slot(&mut self, world: &World, schedule: &Schedule, inputs: &[Flit; 7]) -> [Flit; 7]
         requires { IsReady world.now schedule.now self.old }
-        ensures slot { self.new ≡ tile_slot world.now schedule.now.grants.items self.old }
-        ensures outputs { result ≡ slot_outputs }
+        ensures slot { self.new ≡ tile_slot world.now schedule.now.grants.items inputs.now self.old }
+        ensures outputs { result ≡ slot_outputs world.now schedule.now.grants.items inputs.now self.old }
         ensures fits { IsFit world.now schedule.now.grants.items self.new }
         ensures made { (loads : List LoadName) → IsMadeFor world.now loads self.old → IsMadeFor world.now loads self.new }
     {
-        self.advance(world, schedule);
-        [Flit {
-            word: None,
-            credits: 0,
-        }; 7]
+        self.advance(world, schedule, inputs)
     }
 
     /// Answers the tile's next slot.
@@ -196,5 +236,28 @@ impl Tile {
         ensures { result.now ≡ self.now.kernel }
     {
         &self.microkernel
+    }
+
+    /// Answers the tile's slot tables.
+    pub fn tables(&self) -> &SlotTables
+        ensures { result.now ≡ self.now.tables }
+    {
+        &self.tables
+    }
+
+    /// Answers a port of the tile's network interface, counted from 0.
+    pub fn port(&self, port: u8) -> &Port
+        requires { port < length self.now.ports }
+        ensures { slice_get self.now.ports port ≡ Some result.now }
+    {
+        &self.ports[usize::from(port)]
+    }
+
+    /// Answers how many flits other than idle an output (0 to 6) carried in the slots so far and the next one.
+    pub fn carried(&self, out: u8) -> u64
+        requires { out < 7 }
+        ensures { result ≡ get_or self.now.carried out 0 }
+    {
+        self.carried[usize::from(out)]
     }
 }

@@ -29,7 +29,7 @@ set_lost ports (n ∷ numbers) (own ∷ owns) (suc j) number port size at =
     ⊎_elim same other (cases_eq number n)
 
 -- and so are ports at any of them
-put_lost : (ports : List SizedPort) (inner : List ℕ) (placed : List SizedPort) (numbers : List ℕ) (own : List SizedPort)
+pub put_lost : (ports : List SizedPort) (inner : List ℕ) (placed : List SizedPort) (numbers : List ℕ) (own : List SizedPort)
     → length own ≡ length numbers
     → ((j number : ℕ) → slice_get inner j ≡ Some number → (k : ℕ) × (slice_get numbers k ≡ Some number))
     → put_ports (put_ports ports inner placed) numbers own ≡ put_ports ports numbers own

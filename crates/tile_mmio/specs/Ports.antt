@@ -31,3 +31,9 @@ AreNumbers ports numbers = All (λ number. number < length ports) numbers
 pub record AreOwn (ports : List SizedPort) (numbers : List ℕ) : Type 0 where
   pub within : AreNumbers ports numbers
   pub apart : IsDistinct nat_eq numbers
+
+-- ports, each changed by its number on the tile
+abbrev pub each_port : (ℕ → SizedPort → SizedPort) → List ℕ → List SizedPort → List SizedPort
+each_port change (number ∷ numbers) (port ∷ ports) = change number port ∷ each_port change numbers ports
+each_port change (number ∷ numbers) [] = []
+each_port change [] ports = []

@@ -3,7 +3,6 @@ use Rattle.std.specs.Prelude.{List, [], ◌∷◌, codes, Result}
 use Rattle.bundle_model.specs.declared.bundle.Bundle.{Bundle}
 use Rattle.bundle_model.specs.declared.rules.BRule.{BRule}
 use Rattle.bundle_model.specs.declared.world.Named.{Named}
-use Rattle.script_file.specs.declared.command.Command.{Command}
 use Rattle.script_file.specs.declared.command.Command.TheVariants.{Load, Stop, Until}
 use Rattle.script_file.specs.declared.command.Script.{Script}
 

@@ -4,7 +4,7 @@ use Rattle.soc_base.specs.declared.limits.TheConstants.{MOST_FILE_BYTES}
 use Rattle.soc_io.specs.Counts.{Rose}
 use Rattle.soc_io.specs.Reading.{Held}
 use Rattle.soc_top.specs.declared.fault.TopFault.{TopFault}
-use Rattle.soc_top.specs.declared.fault.TopFault.TheVariants.{Platform, Unbuilt, ScriptTooLong, Script, Bundle, Absent, Read, NoMemory}
+use Rattle.soc_top.specs.declared.fault.TopFault.TheVariants.{Absent, Read, NoMemory}
 use Rattle.soc_top.specs.declared.file.Content.{Content}
 use Rattle.soc_top.specs.declared.file.Content.TheVariants.{Whole, TooLong}
 use Rattle.soc_top.specs.declared.script.Source.{Source}

@@ -7,11 +7,12 @@ ghost use Rattle.comik.specs.Places.{IsPlace};
 ghost use Rattle.comik.specs.Table.{kernel_rows};
 ghost use Rattle.tile_memory.specs.Bytes.{IsInside};
 ghost use Rattle.tile_mmio.specs.Ports.{AreOwn};
-ghost use Rattle.tile_core.specs.inner.Stretch.{ran_in, memory_ran};
+ghost use Rattle.tile_core.specs.inner.Stretch.{ran_in, memory_ran, ports_ran};
 
 use super::Tile;
 use bundle_model::{Part, World};
 use comik::{Frame, FramePlace, frame_place, place_after};
+use ni_port::Port;
 use part_model::Place;
 use platform_model::Costs;
 use rv_core::Regs;
@@ -20,7 +21,7 @@ use tile_mmio::PartOnTile;
 use trace_log::PartLog;
 
 // Does `count` cycles of a part with these registers and cycles left.
-#[tactic(auto, using(crate::proofs::Memory::joined_region, crate::proofs::Portless::own_none, crate::proofs::Portless::ports_none))]
+#[tactic(auto, using(crate::proofs::Memory::joined_region, crate::proofs::Memory::joined_ports))]
 fn run(
     costs: &Costs,
     part: &Part,
@@ -29,14 +30,17 @@ fn run(
     regs: &mut Regs,
     left: &mut u8,
     memory: &mut TileMemory,
+    ports: &mut [Port],
     log: &mut PartLog,
 )
     requires inside { IsInside memory.old part.now.region }
+    requires own { AreOwn ports.old part.now.ports }
     requires bounded { cycle + count ≤ 2 ^ 64 }
-    ensures regs { regs.new ≡ (ran_in costs.now cycle count part.now regs.old left.old memory.old log.old).regs }
-    ensures left { left.new ≡ (ran_in costs.now cycle count part.now regs.old left.old memory.old log.old).left }
-    ensures memory { memory.new ≡ memory_ran costs.now cycle count part.now regs.old left.old memory.old log.old }
-    ensures log { log.new ≡ (ran_in costs.now cycle count part.now regs.old left.old memory.old log.old).log }
+    ensures regs { regs.new ≡ (ran_in costs.now cycle count part.now regs.old left.old memory.old ports.old log.old).regs }
+    ensures left { left.new ≡ (ran_in costs.now cycle count part.now regs.old left.old memory.old ports.old log.old).left }
+    ensures memory { memory.new ≡ memory_ran costs.now cycle count part.now regs.old left.old memory.old ports.old log.old }
+    ensures ports { ports.new ≡ ports_ran costs.now cycle count part.now regs.old left.old memory.old ports.old log.old }
+    ensures log { log.new ≡ (ran_in costs.now cycle count part.now regs.old left.old memory.old ports.old log.old).log }
 {
     let place = Place {
         tile: part.tile,
@@ -47,9 +51,8 @@ fn run(
         left,
         memory,
         region: part.region,
-        // A tile has no ports yet.
-        ports: &mut [],
-        map: &[],
+        ports,
+        map: part.ports.as_slice(),
         log,
     };
     running.run(costs, place, cycle, count);
@@ -89,6 +92,7 @@ impl Tile {
     // Does `count` cycles of the part that is held, which is that of the load at a place.
     fn run_part(&mut self, costs: &Costs, part: &Part, place: usize, cycle: u64, count: u64)
         requires inside { IsInside self.old.memory part.now.region }
+        requires own { AreOwn self.old.ports part.now.ports }
         requires logged { place < length self.old.logs }
         requires bounded { cycle + count ≤ 2 ^ 64 }
         ensures { self.new ≡ ran_part costs.now cycle count self.old place (Some part.now) }
@@ -102,6 +106,7 @@ impl Tile {
             &mut context.regs,
             &mut context.left,
             &mut self.bytes,
+            self.ports.as_mut_slice(),
             &mut self.part_logs[place],
         );
     }

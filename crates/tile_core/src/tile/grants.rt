@@ -1,40 +1,25 @@
 //! Grants that end and begin in a slot.
 
-ghost use Rattle.std.specs.Prelude.{◌≡◌, ◌&&◌, not, if◌then◌else◌};
-ghost use Rattle.std.specs.List.{list_all};
-ghost use Rattle.tile_core.specs.Slot.{ends_in, begins_in};
+ghost use Rattle.std.specs.Prelude.{◌≡◌, ◌≤◌, All, if◌then◌else◌};
+ghost use Rattle.soc_base.specs.Port.{empty_port};
+ghost use Rattle.tile_mmio.specs.Ports.{AreNumbers};
+ghost use Rattle.tile_core.specs.Slot.{ends_in, begins_in, with_each};
 
 use super::Tile;
 use bundle_model::{Grant, Part, Schedule, World};
+use grant_tables::{begins_in, ends_in, is_quiet, settle_tables};
+use ni_port::Port;
 
-// Whether a grant ends in a slot, having begun before.
-fn ends_in(grant: &Grant, slot: u64) -> bool
-    ensures { result ≡ ends_in slot grant.now }
+// Empties the ports of a tile at these numbers, and sets their credit. All queues have `queue` places.
+fn reset_each(ports: &mut [Port], numbers: &[u8], queue: u8, credit: u8)
+    requires numbers { AreNumbers ports.old numbers.now }
+    requires queues { All (λ port. port.queue ≡ queue) ports.old }
+    requires credit { credit ≤ queue }
+    ensures { ports.new ≡ with_each (record { queue = queue; port = empty_port credit }) numbers.now ports.old }
 {
-    match grant.end {
-        Some(end) => end == slot && grant.start < end,
-        None => false,
+    for number in numbers {
+        ports[usize::from(*number)].reset(credit);
     }
-}
-
-// Whether a grant begins in a slot, and has no end or a later one.
-fn begins_in(grant: &Grant, slot: u64) -> bool
-    ensures { result ≡ begins_in slot grant.now }
-{
-    grant.start == slot
-        && match grant.end {
-            Some(end) => slot < end,
-            None => true,
-        }
-}
-
-// Whether no grant ends or begins in a slot.
-fn is_quiet(grants: &[Grant], slot: u64) -> bool
-    ensures { result ≡ list_all (λ grant. not (ends_in slot grant) && not (begins_in slot grant)) grants.now }
-{
-    grants
-        .iter()
-        .all(|grant| !ends_in(grant, slot) && !begins_in(grant, slot))
 }
 
 impl Tile {
@@ -42,16 +27,31 @@ impl Tile {
     ghost use Rattle.tile_core.specs.Tile.{number_of};
     ghost use Rattle.tile_core.specs.Slot.{removed, after_end, with_ends, installed, after_start, with_starts, with_grants};
     ghost use Rattle.tile_core.specs.Fit.{IsUnderway};
-    ghost use Rattle.tile_core.specs.inner.Ready.{CanLeave, CanCome, CanEnd, CanBegin, HasEnded};
+    ghost use Rattle.tile_core.specs.inner.Ready.{HasPorts, CanLeave, CanCome, CanEnd, CanBegin, HasEnded};
 
-    // Takes a part out.
-    fn remove(&mut self, part: &Part)
-        requires { CanLeave self.old part.now }
-        ensures { self.new ≡ removed self.old part.now }
+    // Resets the ports of a part.
+    fn reset_ports(&mut self, world: &World, part: &Part, credit: u8)
+        requires ports { HasPorts world.now self.old part.now }
+        requires credit { credit ≤ world.now.platform.queue }
+        ensures { self.new ≡ record self.old { ports = with_each (record { queue = world.now.platform.queue; port = empty_port credit }) part.now.ports self.old.ports } }
+    {
+        reset_each(
+            self.ports.as_mut_slice(),
+            part.ports.as_slice(),
+            world.platform.queue,
+            credit,
+        );
+    }
+
+    // Takes a part out. Its ports have no credit then.
+    fn remove(&mut self, world: &World, part: &Part)
+        requires { CanLeave world.now self.old part.now }
+        ensures { self.new ≡ removed world.now self.old part.now }
     {
         let number = part.slots.trailing_zeros() as u8;
         self.microkernel.clear(number);
         self.numbers[usize::from(number)] = None;
+        self.reset_ports(world, part, 0);
     }
 
     // Lets the part of a grant's load leave, if it has one on the tile.
@@ -65,17 +65,19 @@ impl Tile {
         let Some(part) = self.load_part(world, place) else {
             return;
         };
-        self.remove(part);
+        self.remove(world, part);
     }
 
-    // Installs the part of the load at a place: the microkernel prepares it, and its region is filled.
-    fn install(&mut self, place: usize, part: &Part)
-        requires { CanCome self.old part.now }
-        ensures { self.new ≡ installed self.old place part.now }
+    // Installs the part of the load at a place: the microkernel prepares it, its region is filled, and each
+    // of its ports has credit for all places of the far queue.
+    fn install(&mut self, world: &World, place: usize, part: &Part)
+        requires { CanCome world.now self.old part.now }
+        ensures { self.new ≡ installed world.now self.old place part.now }
     {
         let number = self.microkernel.prepare(part.slots, part.entry);
         self.bytes.fill(part.region, part.image.as_slice());
         self.numbers[usize::from(number)] = Some(place);
+        self.reset_ports(world, part, world.platform.queue);
     }
 
     // Installs the part of a grant's load, if it has one on the tile.
@@ -89,7 +91,7 @@ impl Tile {
         let Some(part) = self.load_part(world, place) else {
             return;
         };
-        self.install(place, part);
+        self.install(world, place, part);
     }
 
     // Ends a grant, if it ends in the slot.
@@ -140,10 +142,12 @@ impl Tile {
         requires { IsUnderway world.now schedule.now self.old }
         ensures { self.new ≡ with_grants world.now schedule.now.grants.items self.old }
     {
-        if is_quiet(schedule.grants.as_slice(), self.slot) {
+        let grants = schedule.grants.as_slice();
+        if is_quiet(grants, self.slot) {
             return;
         }
         self.end_grants(world, schedule);
         self.begin_grants(world, schedule);
+        settle_tables(&mut self.tables, world, self.number, grants, self.slot);
     }
 }

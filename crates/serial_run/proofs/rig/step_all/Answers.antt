@@ -1,24 +1,55 @@
-use Rattle.std.proofs.Common.{sym, subst, ap, ◌∙◌, arith}
-use Rattle.std.proofs.lemmas.List.Edits.{map_over_more}
+use Rattle.std.proofs.Common.{◌≡◌, ◌<◌, length, get_or, sym, subst, ◌∙◌, arith}
+use Rattle.std.proofs.lemmas.List.{length-set}
 use Rattle.std.proofs.lemmas.List.Elements.{All-more}
-use Rattle.tile_core.specs.Fit.{IsUnderway}
 use Rattle.tile_core.specs.declared.station.Station.{Station}
-use Rattle.tile_core.specs.Tile.{TileState}
-use Rattle.serial_run.specs.inner.Stations.{station_slot}
-use Rattle.serial_run.proofs.Underway.{read_before}
+use Rattle.tile_core.specs.Fit.{IsUnderway}
+use Rattle.serial_run.specs.inner.Slots.{each_with, station_slot, station_sends}
+use Rattle.serial_run.proofs.Each.{length-each_with, fills, unfilled, filled}
+use Rattle.serial_run.proofs.Stepping.{one_of_each}
 use Rattle.serial_run.proofs.rig.step_all.Goals as goal
 
-pub loop-station-preserved : goal.loop-station-preserved
-loop-station-preserved c =
-    let f = station_slot c.args.world.now c.args.schedule.now.grants.items in
-    let Stays = λ (tile : TileState). IsUnderway c.args.world.now c.args.schedule.now tile in
-    let P = λ (station : Station). Stays (f station).tile in
-    let same = read_before f c.args.stations.now c.loop-station.stations c.loop-station.station-index
-    c.station-item.result (omega arith) c.loop-station.invariant.0 c.station-item.is in
-    let here = subst Stays (ap (λ (station : Station). station.tile) c.step.ensures.slot) c.step.ensures.underway in (
-      rw (c.step.ensures.slot, ← c.station-item.is)
-          (map_over_more f c.args.stations.now c.loop-station.stations c.loop-station.station-index
-          c.station-item.result (omega arith) c.loop-station.invariant.0 c.station-item.is),
-      All-more P c.args.stations.now c.loop-station.station-index c.station-item.result (omega arith)
-          c.loop-station.invariant.1 (subst P (sym c.station-item.is ∙ same) here),
+pub loop-number-preserved : goal.loop-number-preserved
+loop-number-preserved c =
+    let i = c.loop-number.number in
+    let (long, sent_long, done, rest, sent, under) = c.loop-number.invariant in
+    let slot = station_slot c.args.world.now c.args.schedule.now.grants.items c.args.flits.now in
+    let sends = station_sends c.args.world.now c.args.schedule.now.grants.items c.args.flits.now in
+    let sources = c.args.sources.now in
+    let old = c.args.stations.now in
+    let default = c.index-stations-number.result in
+    let station = get_or c.loop-number.stations i default in
+    let new = c.step.new.station in
+    let inside : i < length old = omega arith in
+    let has_sources : i < length sources = omega (arith, c.requires.sources) in
+    let read : station ≡ get_or old i default = rest i default (omega arith) in
+    let after = each_with slot sources old in
+    let outputs = each_with sends sources old in
+    let after_long : i < length after = omega (arith, length-each_with slot sources old c.requires.sources) in
+    let outputs_long : i < length outputs = omega (arith, length-each_with sends sources old c.requires.sources) in
+    let new_is = one_of_each slot sources old i _ default station new has_sources inside read c.step.ensures.slot in
+    let sent_is =
+    one_of_each sends sources old i _ default station c.step.result has_sources inside read c.step.ensures.sends in
+    let Under = λ (s : Station). IsUnderway c.args.world.now c.args.schedule.now s.tile in (
+      length-set c.loop-number.stations i new ∙ long,
+      length-set c.loop-number.sent i c.step.result ∙ sent_long,
+      fills after c.loop-number.stations i new (omega arith) after_long done new_is,
+      unfilled old c.loop-number.stations i new rest,
+      fills outputs c.loop-number.sent i c.step.result (omega arith) outputs_long sent sent_is,
+      All-more Under after i new after_long under (subst Under (sym new_is) c.step.ensures.underway),
     )
+
+pub returns-clause-slot : goal.returns-clause-slot
+returns-clause-slot c =
+    let (long, sent_long, done, rest, sent, under) = c.loop-number.invariant in
+    let slot = station_slot c.args.world.now c.args.schedule.now.grants.items c.args.flits.now in
+    let all : length c.args.stations.now ≡ c.loop-number.number = omega arith in
+    filled (each_with slot c.args.sources.now c.args.stations.now) c.loop-number.stations c.loop-number.number
+    (long ∙ all) (length-each_with slot c.args.sources.now c.args.stations.now c.requires.sources ∙ all) done
+
+pub returns-clause-sends : goal.returns-clause-sends
+returns-clause-sends c =
+    let (long, sent_long, done, rest, sent, under) = c.loop-number.invariant in
+    let sends = station_sends c.args.world.now c.args.schedule.now.grants.items c.args.flits.now in
+    let all : length c.args.stations.now ≡ c.loop-number.number = omega arith in
+    filled (each_with sends c.args.sources.now c.args.stations.now) c.loop-number.sent c.loop-number.number
+    (sent_long ∙ all) (length-each_with sends c.args.sources.now c.args.stations.now c.requires.sources ∙ all) sent

@@ -1,12 +1,14 @@
-use Rattle.std.proofs.Common.{◌≡◌, ◌++◌, map, take, drop, All}
-use Rattle.tile_core.specs.Fit.{IsUnderway}
-use Rattle.tile_core.specs.Slot.{tile_slot}
-use Rattle.serial_run.specs.inner.Stations.{station_slot}
+use Rattle.std.proofs.Common.{◌≡◌, ℕ, ◌≤◌, length, take, get_or}
+use Rattle.tile_core.specs.declared.station.Station.{Station}
+use Rattle.serial_run.specs.inner.Slots.{each_with, station_slot, station_sends, AreUnderway}
 use Rattle.serial_run.proofs.rig.step_all.Given as goal
 
-abbrev pub invariant-loop-station : goal.invariant-loop-station
-invariant-loop-station l =
-    (l.stations ≡ map (station_slot l.world l.schedule.grants.items) (take l.station-index l.fn.stations)
-    ++ drop l.station-index l.fn.stations)
-    × All (λ station. IsUnderway l.world l.schedule (tile_slot l.world l.schedule.grants.items station.tile))
-    (take l.station-index l.fn.stations)
+abbrev pub invariant-loop-number : goal.invariant-loop-number
+invariant-loop-number l =
+    let after = each_with (station_slot l.world l.schedule.grants.items l.flits) l.sources l.fn.stations in
+    let sends = each_with (station_sends l.world l.schedule.grants.items l.flits) l.sources l.fn.stations in
+    (length l.stations ≡ length l.fn.stations) × (length l.sent ≡ length l.fn.stations)
+    × (take l.number l.stations ≡ take l.number after)
+    × ((k : ℕ) (d : Station) → l.number ≤ k → get_or l.stations k d ≡ get_or l.fn.stations k d)
+    × (take l.number l.sent ≡ take l.number sends)
+    × AreUnderway l.world l.schedule (take l.number after)

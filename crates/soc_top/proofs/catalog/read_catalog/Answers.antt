@@ -1,5 +1,5 @@
 use Rattle.std.proofs.Common.{◌∙◌, arith}
-use Rattle.soc_top.proofs.Turns.{one_more_bundle, bundles_stop}
+use Rattle.soc_top.proofs.Turns.{one_more_bundle}
 use Rattle.soc_top.proofs.catalog.read_catalog.Goals as goal
 
 pub loop-name-preserved : goal.loop-name-preserved

@@ -1,5 +1,4 @@
-use Rattle.std.proofs.Common.{◌≤◌, length, sym}
-use Rattle.soc_base.specs.declared.limits.TheConstants.{MOST_FILE_BYTES}
+use Rattle.std.proofs.Common.{sym}
 use Rattle.soc_top.specs.Wants.{HasBytes}
 use Rattle.soc_top.proofs.Sources.{AreOf, found_kept, script_given, script_refused}
 use Rattle.soc_top.proofs.script.next_script.Goals as goal

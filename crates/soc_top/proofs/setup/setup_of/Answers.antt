@@ -1,4 +1,4 @@
-use Rattle.std.proofs.Common.{◌≡◌, ◌≤◌, length, ◌∙◌, arith}
+use Rattle.std.proofs.Common.{◌≡◌, ◌∙◌, arith}
 use Rattle.soc_base.specs.declared.limits.TheConstants.{MOST_COMMANDS}
 use Rattle.vep_manager.specs.Loads.{loads_of}
 use Rattle.soc_top.specs.inner.Naming.{all_commands}

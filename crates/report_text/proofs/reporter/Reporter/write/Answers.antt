@@ -3,4 +3,4 @@ use Rattle.report_text.proofs.reporter.Reporter.write.Goals as goal
 
 pub put_all-requires-clause-alone : goal.put_all-requires-clause-alone
 put_all-requires-clause-alone g c =
-    holds_alone c.args.setup.now c.args.end.now c.requires.sound c.requires.legal c.requires.in_step c.requires.one_tile
+    holds_alone c.args.setup.now c.args.end.now c.requires.sound c.requires.legal c.requires.in_step

@@ -1,32 +1,48 @@
-use Rattle.std.proofs.Common.{◌≡◌, ◌+◌, sym, refl, ap, subst, ◌∙◌, arith}
-use Rattle.std.specs.List.{All}
-use Rattle.soc_base.proofs.Laws.{steps_none}
-use Rattle.tile_core.specs.Fit.{IsUnderway}
-use Rattle.tile_core.specs.Lockstep.{Machine}
-use Rattle.serial_run.proofs.Fresh.{all_fresh}
-use Rattle.serial_run.proofs.Underway.{underway_more, machine_more, in_step}
+use Rattle.std.proofs.Common.{◌≡◌, ◌+◌, map, sym, ap, subst, ◌∙◌, arith}
+use Rattle.std.specs.List.{range_with_len}
+use Rattle.tile_core.specs.Lockstep.{machine_at}
+use Rattle.serial_run.specs.Rig.{RigState, IsJoined}
+use Rattle.serial_run.proofs.Fresh.{fresh_are_underway, fresh_are_at}
+use Rattle.serial_run.proofs.Steps.{Shows, shows_first, shows_more}
+use Rattle.serial_run.proofs.Underway.{AreAt, joined_next, at_next, all_ready}
 use Rattle.serial_run.proofs.rig.Rig.finish.Goals as goal
 
 pub loop-slot-init : goal.loop-slot-init
 loop-slot-init c = (
-  sym (steps_none _ 0 0 c.args.self refl),
-  all_fresh c.args.world.now c.args.schedule.now
-      c.args.until c.args.self c.requires,
+  c.requires.fresh.joined,
+  λ loads fresh. shows_first c.args.world.now loads c.args.schedule.now.grants.items c.args.self fresh,
+  fresh_are_underway c.args.world.now c.args.schedule.now c.args.until c.args.self c.requires,
+  fresh_are_at c.args.world.now c.args.schedule.now c.args.until c.args.self c.requires,
 )
+
+pub slot-requires-clause-ready : goal.slot-requires-clause-ready
+slot-requires-clause-ready c =
+    let (joined, shows, underway, at) = c.loop-slot.invariant in
+    all_ready c.args.world.now c.args.schedule.now c.loop-slot._slot c.loop-slot.self.tiles
+    (omega (arith, c.requires.reached)) underway at
 
 pub loop-slot-preserved : goal.loop-slot-preserved
 loop-slot-preserved c =
-    let Stay = λ (machine : Machine). All (λ tile. IsUnderway c.args.world.now c.args.schedule.now tile
-    × (tile.at ≡ c.loop-slot._slot + 1)) machine.tiles in
-    let stay = underway_more c.args.world.now c.args.schedule.now c.loop-slot._slot c.loop-slot.self.tiles
-    c.loop-slot.invariant.1 c.slot.ensures.underway in (
-      c.slot.ensures.slot ∙ machine_more c.args.world.now c.args.schedule.now.grants.items c.loop-slot._slot
-          c.args.self c.loop-slot.self c.loop-slot.invariant.0,
-      subst Stay (sym c.slot.ensures.slot) stay,
+    let (joined, shows, underway, at) = c.loop-slot.invariant in
+    let world = c.args.world.now in
+    let grants = c.args.schedule.now.grants.items in
+    let slot = c.loop-slot._slot in
+    let rig = c.loop-slot.self in
+    let Joined = λ (next : RigState). IsJoined world next in
+    let At = λ (next : RigState). AreAt (slot + 1) next.tiles in
+    let is = sym c.slot.ensures.slot in (
+      subst Joined is (joined_next world grants rig joined),
+      λ loads fresh. let Shown = λ (next : RigState). Shows world (machine_at world loads grants (slot + 1)) next in
+          subst Shown is (shows_more world loads grants slot rig joined (shows loads fresh)),
+      c.slot.ensures.underway,
+      subst At is (at_next world grants slot rig at),
     )
 
 pub returns : goal.returns
 returns c = λ loads fresh.
-    ap (λ (machine : Machine). machine.tiles) c.self.view_is
-    ∙ in_step c.args.world.now loads c.args.schedule.now.grants.items c.loop-slot._slot c.args.until c.args.self
-    c.loop-slot.self fresh c.loop-slot.invariant.0 (omega arith)
+    let (joined, shows, underway, at) = c.loop-slot.invariant in
+    let world = c.args.world.now in
+    let done : c.loop-slot._slot ≡ c.args.until = omega arith in
+    ap (λ (rig : RigState). rig.tiles) c.self.view_is ∙ (shows loads fresh).tiles
+    ∙ ap (λ slots. map (machine_at world loads c.args.schedule.now.grants.items slots).tile
+    (range_with_len 0 world.platform.tiles)) done

@@ -1,10 +1,15 @@
-use Rattle.std.proofs.Common.{◌≡◌, All}
-use Rattle.soc_base.specs.Steps.{after_steps}
+use Rattle.std.proofs.Common.{List, All}
+use Rattle.bundle_model.specs.declared.world.LoadName.{LoadName}
 use Rattle.tile_core.specs.Fit.{IsUnderway}
-use Rattle.tile_core.specs.Lockstep.{machine_slot}
+use Rattle.tile_core.specs.Lockstep.{machine_at}
+use Rattle.serial_run.specs.Rig.{IsJoined, IsFresh}
+use Rattle.serial_run.proofs.Steps.{Shows}
+use Rattle.serial_run.proofs.Underway.{AreAt}
 use Rattle.serial_run.proofs.rig.Rig.finish.Given as goal
 
 abbrev pub invariant-loop-slot : goal.invariant-loop-slot
 invariant-loop-slot l =
-    (l.self ≡ after_steps (λ slot machine. machine_slot l.world l.schedule.grants.items machine) 0 l._slot l.fn.self)
-    × All (λ tile. IsUnderway l.world l.schedule tile × (tile.at ≡ l._slot)) l.self.tiles
+    IsJoined l.world l.self
+    × ((loads : List LoadName) → IsFresh l.world loads l.fn.self
+    → Shows l.world (machine_at l.world loads l.schedule.grants.items l._slot) l.self)
+    × All (IsUnderway l.world l.schedule) l.self.tiles × AreAt l._slot l.self.tiles

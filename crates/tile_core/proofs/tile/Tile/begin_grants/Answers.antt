@@ -1,6 +1,6 @@
 use Rattle.std.proofs.Common.{ap, arith}
 use Rattle.tile_core.specs.Tile.{TileState}
-use Rattle.tile_core.proofs.Ready.{begin_ready_in}
+use Rattle.tile_core.proofs.Able.{begin_ready_in}
 use Rattle.tile_core.proofs.tile.Tile.begin_grants.Goals as goal
 
 pub begin_if-requires : goal.begin_if-requires

@@ -1,6 +1,6 @@
 use Rattle.std.proofs.Common.{ap, arith}
 use Rattle.tile_core.specs.Tile.{TileState}
-use Rattle.tile_core.proofs.Ready.{end_ready_in}
+use Rattle.tile_core.proofs.Able.{end_ready_in}
 use Rattle.tile_core.proofs.tile.Tile.end_grants.Goals as goal
 
 pub end_if-requires : goal.end_if-requires

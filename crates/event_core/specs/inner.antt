@@ -1,0 +1,4 @@
+pub mod Engine
+pub mod Wires
+pub mod Turn
+pub mod Sample
