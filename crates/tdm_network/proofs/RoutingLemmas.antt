@@ -7,6 +7,7 @@ use Rattle.tdm_network.specs.declared.entries.Entry.{Entry}
 use Rattle.tdm_network.specs.declared.entries.Source.{Source}
 use Rattle.tdm_network.specs.declared.entries.Arrival.{Arrival}
 use Rattle.tdm_network.specs.declared.rows.Row.{Row}
+use Rattle.tdm_network.specs.declared.routing.Outputs.{Outputs}
 use Rattle.tdm_network.specs.Rows.{row_of, row_at, free_row, free_rows, injecting}
 use Rattle.tdm_network.proofs.SpotLemmas.{free_at}
 use Rattle.tdm_network.specs.Routing.{out_flit, arriving, routed, no_outputs}
@@ -52,3 +53,11 @@ pub nothing_routed : (rows : List Row) (slot : ℕ) (inputs : List WordAndCredit
 nothing_routed rows slot inputs injected free =
     ap (λ (row : Row). record { links = map (out_flit inputs injected) row.outs; deliver = option_map (arriving inputs) (row_of rows slot).deliver }) (free_row_of rows (slot + 1) free)
     ∙ ap (λ (row : Row). record { links = replicate 7 idle; deliver = option_map (arriving inputs) row.deliver }) (free_row_of rows slot free)
+
+-- the same of the outputs alone
+pub no_flits : (rows : List Row) (slot : ℕ) (inputs : List WordAndCredits) (injected : WordAndCredits) → rows ≡ free_rows (length rows) → (routed rows slot inputs injected).links ≡ replicate 7 idle
+no_flits rows slot inputs injected free = ap (λ (outputs : Outputs). outputs.links) (nothing_routed rows slot inputs injected free)
+
+-- and of the delivery
+pub no_delivery : (rows : List Row) (slot : ℕ) (inputs : List WordAndCredits) (injected : WordAndCredits) → rows ≡ free_rows (length rows) → (routed rows slot inputs injected).deliver ≡ None
+no_delivery rows slot inputs injected free = ap (λ (outputs : Outputs). outputs.deliver) (nothing_routed rows slot inputs injected free)

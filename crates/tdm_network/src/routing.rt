@@ -1,6 +1,6 @@
 //! What a tile does with the flits of a slot.
 
-ghost use Rattle.std.specs.Prelude.{◌≡◌, map, get_or};
+ghost use Rattle.std.specs.Prelude.{◌≡◌, map, get_or, replicate};
 ghost use Rattle.std.specs.Option.{option_map};
 ghost use Rattle.soc_base.specs.Port.{idle};
 ghost use Rattle.tdm_network.specs.Routing.{out_flit, arriving};
@@ -69,19 +69,26 @@ fn out_flit(inputs: &[Flit; 7], injected: Flit, place: Option<Entry<Source>>) ->
     }
 }
 
-// The flits of the outputs.
+// Writes the flits of the outputs.
 pub(crate) fn out_flits(
     inputs: &[Flit; 7],
     injected: Flit,
     outs: &[Option<Entry<Source>>; 7],
-) -> [Flit; 7]
-    ensures { result ≡ map (out_flit inputs.now injected) outs.now }
+    links: &mut [Flit; 7],
+)
+    ensures { links.new ≡ map (out_flit inputs.now injected) outs.now }
 {
-    let mut links = [IDLE; 7];
     for out in 0..7usize {
         links[out] = out_flit(inputs, injected, outs[out]);
     }
-    links
+}
+
+// Writes idle flits.
+pub(crate) fn idle_flits(links: &mut [Flit; 7])
+    ensures { links.new ≡ replicate 7 idle }
+{
+    let idle = [IDLE; 7];
+    *links = idle;
 }
 
 // What is delivered.

@@ -1,13 +1,13 @@
 //! The tables of a tile.
 
-ghost use Rattle.std.specs.Prelude.{◌≡◌, ◌+◌, ◌%◌, ◌<◌, ◌≤◌, length, IfOk, None};
+ghost use Rattle.std.specs.Prelude.{◌≡◌, ◌+◌, ◌%◌, ◌<◌, ◌≤◌, length, IfOk, IsTrue, None};
 ghost use Rattle.tdm_network.specs.declared.routing.Outputs.{Outputs};
 ghost use Rattle.tdm_network.specs.Rows.{free_rows, installed, removed, injecting};
 ghost use Rattle.tdm_network.specs.Routing.{routed};
 ghost use Rattle.tdm_network.specs.Spots.{Spot, spots_of, spot_of, with_spot, without_label, told, IsInRange};
 
 use crate::entries::TableEntry;
-use crate::routing::{Outputs, delivered, out_flits};
+use crate::routing::{Delivery, Outputs, delivered, idle_flits, out_flits};
 use crate::rows::{Row, all_free};
 use soc_base::{Flit, Label, NoMemory};
 use std::alloc::Global;
@@ -105,22 +105,49 @@ impl SlotTables {
         row + 1
     }
 
-    /// Answers what a slot does with the flits on the inputs and the one that the tile injects: the flits
-    /// of the outputs in the slot after it, by that next slot's entries, and the delivery at the end of
-    /// this slot, by its own entry. Takes no memory.
-    #[tactic(auto, using(crate::proofs::RoutingLemmas::nothing_routed))]
-    pub fn route(&self, slot: u64, inputs: &[Flit; 7], injected: Flit) -> Outputs
-        ensures { result ≡ routed self.now slot inputs.now injected }
+    /// Answers whether it is known that every place is free: then no port injects, outputs are idle, and
+    /// nothing is delivered.
+    pub fn is_free(&self) -> bool
+        ensures { IsTrue result → self.now ≡ free_rows (length self.now) }
+    {
+        !self.used
+    }
+
+    /// Writes what a slot does with the flits on the inputs and the one that the tile injects: the flits of
+    /// the outputs in the slot after it, by that next slot's entries. Answers the delivery at the end of this
+    /// slot, by its own entry. Takes no memory.
+    #[tactic(auto, using(crate::proofs::RoutingLemmas::no_flits, crate::proofs::RoutingLemmas::no_delivery))]
+    pub fn route_into(
+        &self,
+        slot: u64,
+        inputs: &[Flit; 7],
+        injected: Flit,
+        links: &mut [Flit; 7],
+    ) -> Option<Delivery>
+        ensures links { links.new ≡ (routed self.now slot inputs.now injected).links }
+        ensures deliver { result ≡ (routed self.now slot inputs.now injected).deliver }
     {
         if !self.used {
-            return Outputs::idle();
+            idle_flits(links);
+            return None;
         }
         let now = self.row_number(slot);
         let next = self.row_after(slot, now);
-        let row = &self.rows[next];
-        let links = out_flits(inputs, injected, &row.outs);
         let deliver = delivered(inputs, self.rows[now].deliver);
-        Outputs { links, deliver }
+        let row = &self.rows[next];
+        out_flits(inputs, injected, &row.outs, links);
+        deliver
+    }
+
+    /// Answers what a slot does with the flits on the inputs and the one that the tile injects: the flits
+    /// of the outputs in the slot after it, by that next slot's entries, and the delivery at the end of
+    /// this slot, by its own entry. Takes no memory.
+    pub fn route(&self, slot: u64, inputs: &[Flit; 7], injected: Flit) -> Outputs
+        ensures { result ≡ routed self.now slot inputs.now injected }
+    {
+        let mut outputs = Outputs::idle();
+        outputs.deliver = self.route_into(slot, inputs, injected, &mut outputs.links);
+        outputs
     }
 
     /// Reads one place: of table 0, which port injects in a slot; of table 1, what output `row` carries in

@@ -240,3 +240,21 @@ fn a_label_leaves_and_others_stay(rt: HostRuntime) -> Result<(), Fail> {
     assert_eq!(rt; tables.place(0, 0, 1), Some((SECOND, inject(1, 0))));
     Ok(())
 }
+
+#[test]
+fn knows_that_every_place_is_free(rt: HostRuntime) -> Result<(), Fail> {
+    let mut tables = filled(&rt, rt.alloc(), 4, &[])?;
+    assert!(rt; tables.is_free());
+    add(&rt, &mut tables, 4, FIRST, inject(1, 0));
+    assert!(rt; !tables.is_free());
+    tables.remove(FIRST);
+    assert!(rt; tables.is_free());
+    // what stood on the outputs before is gone
+    let mut links = inputs();
+    let delivery = tables.route_into(2, &inputs(), word(9), &mut links);
+    assert!(rt; delivery.is_none());
+    for link in links {
+        assert!(rt; link.word.is_none() && link.credits == 0);
+    }
+    Ok(())
+}
