@@ -21,4 +21,4 @@ mod turns;
 
 pub use entries::settle_tables;
 pub use law::{tables_are_read, tables_follow};
-pub use turns::{begins_in, ends_in, is_quiet};
+pub use turns::{begins_in, ends_in, is_quiet, next_turn};

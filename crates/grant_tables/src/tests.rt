@@ -521,3 +521,24 @@ fn begins_and_ends(rt: HostRuntime) {
         assert_eq!(rt; is_quiet(&[grant], slot), !begins && !ends);
     }
 }
+
+#[test]
+fn tells_the_next_turn(rt: HostRuntime) {
+    let grants = [
+        grant(FIRST, 0, 3, Some(9)),
+        grant(SECOND, 0, 5, None),
+        grant(SECOND, 1, 7, Some(7)),
+    ];
+    let rows = [
+        (0, 3),
+        (3, 3),
+        (4, 5),
+        (5, 5),
+        (6, 9),
+        (9, 9),
+        (10, u64::MAX),
+    ];
+    for (slot, turn) in rows {
+        assert_eq!(rt; next_turn(&grants, slot), turn);
+    }
+}
