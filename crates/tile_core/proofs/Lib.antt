@@ -28,4 +28,5 @@ pub mod Laws
 pub mod Stretches
 pub mod Ready
 pub mod Able
+pub mod Resting
 mod Pairs

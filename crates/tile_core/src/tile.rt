@@ -14,13 +14,14 @@ mod loads;
 /// Flits that the ports of a tile inject and receive.
 mod network;
 
+use self::network::IDLE;
 use bundle_model::{LoadName, Schedule, World};
 use comik::Kernel;
 use ni_port::Port;
 use soc_base::{Flit, Label, NoMemory};
 use std::alloc::Global;
 use std::marker::Model;
-use tdm_network::{Outputs, SlotTables};
+use tdm_network::SlotTables;
 use tile_memory::TileMemory;
 use trace_log::PartLog;
 
@@ -109,11 +110,12 @@ fn free_ports(alloc: Global, count: u8, queue: u8) -> Result<Vec<Port>, NoMemory
 }
 
 impl Tile {
-    ghost use Rattle.std.specs.Prelude.{◌+◌, ◌*◌, ◌^◌, length, get_or, slice_get, Some};
+    ghost use Rattle.std.specs.Prelude.{◌+◌, ◌*◌, ◌^◌, length, get_or, slice_get, All, Some, true, IsTrue};
     ghost use Rattle.bundle_model.specs.declared.world.LoadName.{LoadName};
     ghost use Rattle.bundle_model.specs.World.{IsSoundWorld};
+    ghost use Rattle.grant_tables.specs.Turns.{is_quiet};
     ghost use Rattle.tile_core.specs.Tile.{fresh_tile, log_of, owner_of};
-    ghost use Rattle.tile_core.specs.Slot.{with_injection, with_cycles, traffic, tile_slot, slot_outputs};
+    ghost use Rattle.tile_core.specs.Slot.{with_injection, with_cycles, traffic, with_traffic, tile_slot, slot_outputs};
     ghost use Rattle.tile_core.specs.Fit.{IsMadeFor, IsFit, IsUnderway, IsReady};
     ghost use Rattle.tile_core.specs.inner.Ready.{IsSoundTile};
 
@@ -148,34 +150,57 @@ impl Tile {
         })
     }
 
-    // Lets a port inject, does the cycles of the next slot, and answers what its flits come to.
-    #[tactic(auto, using(crate::proofs::Ready::injected_tile))]
-    fn work(&mut self, world: &World, inputs: &[Flit; 7]) -> Outputs
+    // Lets a port inject, does the cycles of the next slot, delivers, and writes what the outputs carry in
+    // the slot after.
+    fn exchange_around(&mut self, world: &World, inputs: &[Flit; 7], outputs: &mut [Flit; 7])
         requires tile { IsSoundTile world.now self.old }
         requires bounded { (self.old.at + 1) * world.now.platform.slot_cycles < 2 ^ 64 }
-        ensures tile { self.new ≡ with_cycles world.now (with_injection self.old) }
-        ensures traffic { result ≡ traffic inputs.now self.old }
+        requires counted { All (λ count. count + 1 < 2 ^ 64) self.old.carried }
+        ensures tile { self.new ≡ with_traffic (traffic inputs.now self.old) (with_cycles world.now (with_injection self.old)) }
+        ensures links { outputs.new ≡ (traffic inputs.now self.old).links }
     {
-        let outputs = self.exchange(inputs);
+        let delivery = self.exchange(inputs, outputs);
         self.cycles(world);
-        outputs
+        self.finish(delivery, outputs);
     }
 
-    // Does what happens in the next slot, and answers what the outputs carry in the one after.
+    // Does the next slot, whose grants have ended and begun.
+    #[tactic(auto, using(crate::proofs::Resting::rests, crate::proofs::Resting::rests_idle))]
+    fn work(&mut self, world: &World, inputs: &[Flit; 7], outputs: &mut [Flit; 7])
+        requires tile { IsSoundTile world.now self.old }
+        requires bounded { (self.old.at + 1) * world.now.platform.slot_cycles < 2 ^ 64 }
+        requires counted { All (λ count. count + 1 < 2 ^ 64) self.old.carried }
+        ensures tile { self.new ≡ with_traffic (traffic inputs.now self.old) (with_cycles world.now (with_injection self.old)) }
+        ensures links { outputs.new ≡ (traffic inputs.now self.old).links }
+    {
+        if self.tables.is_free() {
+            self.rest(world, outputs);
+        } else {
+            self.exchange_around(world, inputs, outputs);
+        }
+    }
+
+    // Does what happens in the next slot, and writes what the outputs carry in the one after.
     #[tactic(auto, unfolding(crate::specs::Slot::tile_slot, crate::specs::Slot::slot_outputs))]
-    fn advance(&mut self, world: &World, schedule: &Schedule, inputs: &[Flit; 7]) -> [Flit; 7]
+    fn advance(
+        &mut self,
+        world: &World,
+        schedule: &Schedule,
+        quiet: bool,
+        inputs: &[Flit; 7],
+        outputs: &mut [Flit; 7],
+    )
         requires underway { IsUnderway world.now schedule.now self.old }
+        requires quiet { IsTrue quiet → is_quiet schedule.now.grants.items self.old.at ≡ true }
         requires bounded { (self.old.at + 1) * world.now.platform.slot_cycles < 2 ^ 64 }
         requires counted { self.old.at + 1 < 2 ^ 64 }
         ensures slot { self.new ≡ tile_slot world.now schedule.now.grants.items inputs.now self.old }
-        ensures outputs { result ≡ slot_outputs world.now schedule.now.grants.items inputs.now self.old }
+        ensures outputs { outputs.new ≡ slot_outputs world.now schedule.now.grants.items inputs.now self.old }
     {
         let next = self.slot + 1;
-        self.settle(world, schedule);
-        let outputs = self.work(world, inputs);
-        self.finish(&outputs);
+        self.settle_unless(quiet, world, schedule);
+        self.work(world, inputs, outputs);
         self.slot = next;
-        outputs.links
     }
 
     /// Does the tile's next slot by a schedule that agrees with those of earlier slots and whose horizon
@@ -189,7 +214,30 @@ impl Tile {
         ensures fits { IsFit world.now schedule.now.grants.items self.new }
         ensures made { (loads : List LoadName) → IsMadeFor world.now loads self.old → IsMadeFor world.now loads self.new }
     {
-        self.advance(world, schedule, inputs)
+        let mut outputs = [IDLE; 7];
+        self.slot_into(world, schedule, false, inputs, &mut outputs);
+        outputs
+    }
+
+    /// Does the tile's next slot, as `slot`, and writes what its outputs carry in the slot after into
+    /// `outputs`, whatever stood there. `quiet` may be true where no grant of the schedule ends or begins in
+    /// the slot, as `grant_tables::next_turn` tells: then it doesn't look at the grants.
+    pub fn slot_into(
+        &mut self,
+        world: &World,
+        schedule: &Schedule,
+        quiet: bool,
+        inputs: &[Flit; 7],
+        outputs: &mut [Flit; 7],
+    )
+        requires ready { IsReady world.now schedule.now self.old }
+        requires quiet { IsTrue quiet → is_quiet schedule.now.grants.items self.old.at ≡ true }
+        ensures slot { self.new ≡ tile_slot world.now schedule.now.grants.items inputs.now self.old }
+        ensures outputs { outputs.new ≡ slot_outputs world.now schedule.now.grants.items inputs.now self.old }
+        ensures fits { IsFit world.now schedule.now.grants.items self.new }
+        ensures made { (loads : List LoadName) → IsMadeFor world.now loads self.old → IsMadeFor world.now loads self.new }
+    {
+        self.advance(world, schedule, quiet, inputs, outputs);
     }
 
     /// Answers the tile's next slot.

@@ -23,7 +23,8 @@ fn reset_each(ports: &mut [Port], numbers: &[u8], queue: u8, credit: u8)
 }
 
 impl Tile {
-    ghost use Rattle.std.specs.Prelude.{true};
+    ghost use Rattle.std.specs.Prelude.{true, IsTrue};
+    ghost use Rattle.grant_tables.specs.Turns.{is_quiet};
     ghost use Rattle.tile_core.specs.Tile.{number_of};
     ghost use Rattle.tile_core.specs.Slot.{removed, after_end, with_ends, installed, after_start, with_starts, with_grants};
     ghost use Rattle.tile_core.specs.Fit.{IsUnderway};
@@ -149,5 +150,17 @@ impl Tile {
         self.end_grants(world, schedule);
         self.begin_grants(world, schedule);
         settle_tables(&mut self.tables, world, self.number, grants, self.slot);
+    }
+
+    // The same, where it is told whether none does.
+    pub(super) fn settle_unless(&mut self, quiet: bool, world: &World, schedule: &Schedule)
+        requires underway { IsUnderway world.now schedule.now self.old }
+        requires quiet { IsTrue quiet → is_quiet schedule.now.grants.items self.old.at ≡ true }
+        ensures { self.new ≡ with_grants world.now schedule.now.grants.items self.old }
+    {
+        if quiet {
+            return;
+        }
+        self.settle(world, schedule);
     }
 }

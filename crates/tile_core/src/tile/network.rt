@@ -1,14 +1,18 @@
 //! The network interface of a tile and its router, in a slot.
 
-ghost use Rattle.std.specs.Prelude.{◌≡◌, ◌+◌, ◌^◌, ◌<◌, All, if◌then◌else◌};
+ghost use Rattle.std.specs.Prelude.{◌≡◌, ◌+◌, ◌*◌, ◌^◌, ◌<◌, length, replicate, All, if◌then◌else◌};
+ghost use Rattle.soc_base.specs.Port.{idle};
+ghost use Rattle.tdm_network.specs.declared.routing.Outputs.{Outputs};
+ghost use Rattle.tdm_network.specs.Rows.{free_rows};
 ghost use Rattle.tile_core.specs.Slot.{is_idle, counted};
 
 use super::Tile;
+use bundle_model::World;
 use soc_base::Flit;
-use tdm_network::{Delivery, Outputs};
+use tdm_network::Delivery;
 
 // Neither a word nor credits.
-const IDLE: Flit = Flit {
+pub(super) const IDLE: Flit = Flit {
     word: None,
     credits: 0,
 };
@@ -39,7 +43,8 @@ fn count_flits(links: &[Flit; 7], carried: &mut [u64; 7])
 }
 
 impl Tile {
-    ghost use Rattle.tile_core.specs.Slot.{with_injection, injected_flit, traffic, with_delivery, with_traffic};
+    ghost use Rattle.tile_core.specs.Slot.{with_injection, injected_flit, with_cycles, traffic, with_delivery, with_traffic};
+    ghost use Rattle.tile_core.specs.inner.Ready.{IsSoundTile};
 
     // Lets the port inject that the tables name for the slot, and answers its flit: idle where they name none.
     fn inject(&mut self) -> Flit
@@ -56,13 +61,18 @@ impl Tile {
         self.ports[number].inject()
     }
 
-    // Injects, and answers what the outputs carry in the slot after, and what is delivered in this one.
-    pub(super) fn exchange(&mut self, inputs: &[Flit; 7]) -> Outputs
+    // Injects, writes what the outputs carry in the slot after, and answers what is delivered in this one.
+    pub(super) fn exchange(
+        &mut self,
+        inputs: &[Flit; 7],
+        outputs: &mut [Flit; 7],
+    ) -> Option<Delivery>
         ensures tile { self.new ≡ with_injection self.old }
-        ensures traffic { result ≡ traffic inputs.now self.old }
+        ensures links { outputs.new ≡ (traffic inputs.now self.old).links }
+        ensures deliver { result ≡ (traffic inputs.now self.old).deliver }
     {
         let injected = self.inject();
-        self.tables.route(self.slot, inputs, injected)
+        self.tables.route_into(self.slot, inputs, injected, outputs)
     }
 
     // Delivers a flit to its port, if there is one.
@@ -79,11 +89,24 @@ impl Tile {
     }
 
     // Delivers at the end of the slot, and counts what the outputs carry.
-    pub(super) fn finish(&mut self, outputs: &Outputs)
+    pub(super) fn finish(&mut self, deliver: Option<Delivery>, links: &[Flit; 7])
         requires { All (λ count. count + 1 < 2 ^ 64) self.old.carried }
-        ensures { self.new ≡ with_traffic outputs.now self.old }
+        ensures { self.new ≡ with_traffic (record { links = links.now; deliver = deliver }) self.old }
     {
-        self.deliver(outputs.deliver);
-        count_flits(&outputs.links, &mut self.carried);
+        self.deliver(deliver);
+        count_flits(links, &mut self.carried);
+    }
+
+    // Does the cycles of a slot in which no flit comes or goes, since no place of the slot tables is taken.
+    pub(super) fn rest(&mut self, world: &World, outputs: &mut [Flit; 7])
+        requires tile { IsSoundTile world.now self.old }
+        requires bounded { (self.old.at + 1) * world.now.platform.slot_cycles < 2 ^ 64 }
+        requires free { self.old.tables ≡ free_rows (length self.old.tables) }
+        ensures tile { self.new ≡ with_cycles world.now self.old }
+        ensures links { outputs.new ≡ replicate 7 idle }
+    {
+        let idle = [IDLE; 7];
+        *outputs = idle;
+        self.cycles(world);
     }
 }
