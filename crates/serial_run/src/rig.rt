@@ -1,16 +1,18 @@
 //! The tiles of a platform and its links, slot by slot.
 
-ghost use Rattle.std.specs.Prelude.{◌≡◌, map, length, All, IfOk};
+ghost use Rattle.std.specs.Prelude.{◌≡◌, map, length, true, All, IfOk, IsTrue};
 ghost use Rattle.std.specs.List.{range_with_len};
 ghost use Rattle.bundle_model.specs.World.{IsSoundWorld};
+ghost use Rattle.grant_tables.specs.Turns.{is_quiet, AreQuiet};
 ghost use Rattle.tile_core.specs.Fit.{IsReady, IsUnderway};
 ghost use Rattle.tile_core.specs.Tile.{fresh_tile};
 ghost use Rattle.serial_run.specs.Rig.{IsJoined, IsFresh};
 ghost use Rattle.serial_run.specs.Run.{tiles_of, CanFinish, FinishesInStep};
-ghost use Rattle.serial_run.specs.inner.Slots.{each_with, station_slot, station_sends, tiles_moved, links_moved, rig_slot, AreReady, AreUnderway};
+ghost use Rattle.serial_run.specs.inner.Slots.{each_with, station_slot, station_sends, tiles_moved, links_moved, rig_slot, AreReady, AreUnderway, AreInQuiet, AllInQuiet};
 
 use crate::wires::{all_sources, carry_all, idle_links, inputs, no_outputs};
-use bundle_model::{LoadName, Schedule, World};
+use bundle_model::{Grant, LoadName, Schedule, World};
+use grant_tables::next_turn;
 use soc_base::{Flit, NoMemory};
 use std::alloc::Global;
 use std::marker::Model;
@@ -36,21 +38,26 @@ impl Model for Rig {
     ghost view = { λ r. record { tiles = map (λ station. station.tile) r.stations.items; sources = r.sources.items; flits = r.flits.items; sent = r.sent.items } };
 }
 
-// Does the next slot of a tile, over the flits of the links, and answers what it puts on its outputs.
+// Does the next slot of a tile, over the flits of the links, and writes what it puts on its outputs. `quiet`
+// tells that no grant ends or begins in the slot.
 fn step(
     station: &mut Station,
     sources: &[Option<u8>; 7],
     flits: &[Flit],
     world: &World,
     schedule: &Schedule,
-) -> [Flit; 7]
-    requires { IsReady world.now schedule.now station.old.tile }
+    quiet: bool,
+    outputs: &mut [Flit; 7],
+)
+    requires ready { IsReady world.now schedule.now station.old.tile }
+    requires quiet { IsTrue quiet → is_quiet schedule.now.grants.items station.old.tile.at ≡ true }
     ensures slot { station.new ≡ station_slot world.now schedule.now.grants.items flits.now sources.now station.old }
-    ensures sends { result ≡ station_sends world.now schedule.now.grants.items flits.now sources.now station.old }
+    ensures sends { outputs.new ≡ station_sends world.now schedule.now.grants.items flits.now sources.now station.old }
     ensures underway { IsUnderway world.now schedule.now station.new.tile }
 {
     let inputs = inputs(flits, sources);
-    station.tile.slot(world, schedule, &inputs)
+    let tile = &mut station.tile;
+    tile.slot_into(world, schedule, quiet, &inputs, outputs);
 }
 
 // Does the next slot of each tile, and writes down what each puts on its outputs.
@@ -61,8 +68,10 @@ fn step_all(
     flits: &[Flit],
     world: &World,
     schedule: &Schedule,
+    quiet: bool,
 )
     requires ready { AreReady world.now schedule.now stations.old }
+    requires quiet { IsTrue quiet → AreInQuiet schedule.now.grants.items stations.old }
     requires sources { length sources.now ≡ length stations.old }
     requires sent { length sent.old ≡ length stations.old }
     ensures slot { stations.new ≡ each_with (station_slot world.now schedule.now.grants.items flits.now) sources.now stations.old }
@@ -70,12 +79,14 @@ fn step_all(
     ensures underway { AreUnderway world.now schedule.now stations.new }
 {
     for number in 0..stations.len() {
-        sent[number] = step(
+        step(
             &mut stations[number],
             &sources[number],
             flits,
             world,
             schedule,
+            quiet,
+            &mut sent[number],
         );
     }
 }
@@ -97,6 +108,18 @@ fn fresh_stations(
     Ok(stations)
 }
 
+// Up to which slot no grant ends or begins from a slot on, where none does so up to `turn`.
+fn turn_from(grants: &[Grant], slot: u64, turn: u64) -> u64
+    requires { AreQuiet grants.now slot turn }
+    ensures { AreQuiet grants.now slot result }
+{
+    if slot < turn {
+        turn
+    } else {
+        next_turn(grants, slot)
+    }
+}
+
 impl Rig {
     /// Makes the tiles of a world before their first slot and its links, all idle, and takes all the
     /// memory that they need. The loads are those of the run.
@@ -115,9 +138,10 @@ impl Rig {
     }
 
     // Does the next slot of each tile. The links stay as they are.
-    fn move_tiles(&mut self, world: &World, schedule: &Schedule)
+    fn move_tiles(&mut self, world: &World, schedule: &Schedule, quiet: bool)
         requires joined { IsJoined world.now self.old }
         requires ready { All (IsReady world.now schedule.now) self.old.tiles }
+        requires quiet { IsTrue quiet → AllInQuiet schedule.now.grants.items self.old.tiles }
         ensures moved { self.new ≡ tiles_moved world.now schedule.now.grants.items self.old }
         ensures underway { All (IsUnderway world.now schedule.now) self.new.tiles }
     {
@@ -128,6 +152,7 @@ impl Rig {
             self.flits.as_slice(),
             world,
             schedule,
+            quiet,
         );
     }
 
@@ -142,13 +167,14 @@ impl Rig {
 
     // Does the next slot of each tile, and then gives each link what was put on it: a flit is a slot on its
     // way from one tile to the next.
-    fn slot(&mut self, world: &World, schedule: &Schedule)
+    fn slot(&mut self, world: &World, schedule: &Schedule, quiet: bool)
         requires joined { IsJoined world.now self.old }
         requires ready { All (IsReady world.now schedule.now) self.old.tiles }
+        requires quiet { IsTrue quiet → AllInQuiet schedule.now.grants.items self.old.tiles }
         ensures slot { self.new ≡ rig_slot world.now schedule.now.grants.items self.old }
         ensures underway { All (IsUnderway world.now schedule.now) self.new.tiles }
     {
-        self.move_tiles(world, schedule);
+        self.move_tiles(world, schedule, quiet);
         self.move_links(world);
     }
 
@@ -159,8 +185,12 @@ impl Rig {
         requires { CanFinish world.now schedule.now until self }
         ensures { FinishesInStep world.now schedule.now.grants.items until self result.items }
     {
-        for _slot in 0..until {
-            self.slot(world, schedule);
+        let grants = schedule.grants.as_slice();
+        // No grant ends or begins from the slot on, up to this one.
+        let mut turn = 0;
+        for slot in 0..until {
+            turn = turn_from(grants, slot, turn);
+            self.slot(world, schedule, slot < turn);
         }
         self.stations
     }

@@ -1,11 +1,13 @@
 -- A slot of all stations, over the flits of the links.
-use Rattle.std.specs.Prelude.{ℕ, List, [], ◌∷◌, map, get_or, Option, All}
+use Rattle.std.specs.Prelude.{◌≡◌, ℕ, true, List, [], ◌∷◌, map, get_or, Option, All}
 use Rattle.std.specs.Option.{option_map_or}
 use Rattle.soc_base.specs.Port.{WordAndCredits, idle}
 use Rattle.platform_model.specs.declared.link.Link.{Link}
 use Rattle.bundle_model.specs.declared.world.World.{World}
 use Rattle.bundle_model.specs.declared.world.Grant.{Grant}
 use Rattle.bundle_model.specs.declared.world.Schedule.{Schedule}
+use Rattle.grant_tables.specs.Turns.{is_quiet}
+use Rattle.tile_core.specs.Tile.{TileState}
 use Rattle.tile_core.specs.declared.station.Station.{Station}
 use Rattle.tile_core.specs.Fit.{IsReady, IsUnderway}
 use Rattle.tile_core.specs.Slot.{tile_slot, slot_outputs}
@@ -45,6 +47,14 @@ AreReady world schedule stations = All (λ station. IsReady world schedule stati
 -- each station's tile can go on by the schedule
 abbrev pub AreUnderway : World → Schedule → List Station → Type 0
 AreUnderway world schedule stations = All (λ station. IsUnderway world schedule station.tile) stations
+
+-- no grant ends or begins in the next slot of any of the tiles
+abbrev pub AllInQuiet : List Grant → List TileState → Type 0
+AllInQuiet grants tiles = All (λ tile. is_quiet grants tile.at ≡ true) tiles
+
+-- the same of the tiles of stations
+abbrev pub AreInQuiet : List Grant → List Station → Type 0
+AreInQuiet grants stations = All (λ station. is_quiet grants station.tile.at ≡ true) stations
 
 -- What the tiles of a rig put on their outputs in its next slot.
 abbrev pub rig_sends : World → List Grant → RigState → List (List WordAndCredits)

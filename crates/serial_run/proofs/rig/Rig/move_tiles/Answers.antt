@@ -1,7 +1,8 @@
-use Rattle.std.proofs.Common.{◌≡◌, ap, length, sym, subst, ◌∙◌, List, All, arith}
+use Rattle.std.proofs.Common.{◌≡◌, true, ap, length, sym, subst, ◌∙◌, List, All, arith}
 use Rattle.std.proofs.lemmas.List.{length-map, with_items_is}
 use Rattle.std.proofs.lemmas.List.Elements.{All-map}
 use Rattle.tile_core.specs.declared.station.Station.{Station}
+use Rattle.grant_tables.specs.Turns.{is_quiet}
 use Rattle.tile_core.specs.Tile.{TileState}
 use Rattle.tile_core.specs.Fit.{IsReady, IsUnderway}
 use Rattle.serial_run.specs.Rig.{RigState}
@@ -17,6 +18,15 @@ step_all-requires-clause-ready c =
     ap (λ (rig : RigState). rig.tiles) (sym c.self.view_is) ∙ ap tiles_of (sym c.as_mut_slice.ensures.value) in
     all_unmap (IsReady c.args.world.now c.args.schedule.now) (λ (station : Station). station.tile)
     c.as_mut_slice.result.now (subst Ready tiles c.requires.ready)
+
+pub step_all-requires-clause-quiet : goal.step_all-requires-clause-quiet
+step_all-requires-clause-quiet c = λ quiet.
+    let Quiet = λ (tile : TileState). is_quiet c.args.schedule.now.grants.items tile.at ≡ true in
+    let tiles : c.args.self.now.tiles ≡ tiles_of c.as_mut_slice.result.now =
+    ap (λ (rig : RigState). rig.tiles) (sym c.self.view_is) ∙ ap tiles_of (sym c.as_mut_slice.ensures.value) in
+    let AllQuiet = λ (tiles : List TileState). All Quiet tiles in
+    all_unmap Quiet (λ (station : Station). station.tile) c.as_mut_slice.result.now
+    (subst AllQuiet tiles (c.requires.quiet quiet))
 
 pub step_all-requires-clause-sources : goal.step_all-requires-clause-sources
 step_all-requires-clause-sources c =
