@@ -10,7 +10,7 @@ ghost use Rattle.serial_run.specs.Rig.{IsJoined, IsFresh};
 ghost use Rattle.serial_run.specs.Run.{tiles_of, CanFinish, FinishesInStep};
 ghost use Rattle.serial_run.specs.inner.Slots.{each_with, station_slot, station_sends, tiles_moved, links_moved, rig_slot, AreReady, AreUnderway, AreInQuiet, AllInQuiet};
 
-use crate::wires::{all_sources, carry_all, idle_links, inputs, no_outputs};
+use crate::wires::{IDLE, all_sources, carry_all, idle_links, no_outputs, read_inputs};
 use bundle_model::{Grant, LoadName, Schedule, World};
 use grant_tables::next_turn;
 use soc_base::{Flit, NoMemory};
@@ -55,7 +55,8 @@ fn step(
     ensures sends { outputs.new ≡ station_sends world.now schedule.now.grants.items flits.now sources.now station.old }
     ensures underway { IsUnderway world.now schedule.now station.new.tile }
 {
-    let inputs = inputs(flits, sources);
+    let mut inputs = [IDLE; 7];
+    read_inputs(flits, sources, &mut inputs);
     let tile = &mut station.tile;
     tile.slot_into(world, schedule, quiet, &inputs, outputs);
 }

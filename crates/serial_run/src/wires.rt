@@ -12,8 +12,8 @@ use platform_model::Link;
 use soc_base::{Flit, NoMemory};
 use std::alloc::Global;
 
-// The idle flit.
-const IDLE: Flit = Flit {
+/// The idle flit.
+pub const IDLE: Flit = Flit {
     word: None,
     credits: 0,
 };
@@ -101,15 +101,24 @@ fn flit(flits: &[Flit], source: Option<u8>) -> Flit
     }
 }
 
-/// Answers the flits at the inputs 0 to 6 that the links at these places enter.
-pub fn inputs(flits: &[Flit], sources: &[Option<u8>; 7]) -> [Flit; 7]
-    ensures { result ≡ inputs_by flits.now sources.now }
+// Writes the flit of the link at a place over an idle one, which stays where there is none.
+fn read_input(flits: &[Flit], source: Option<u8>, input: &mut Flit)
+    requires { input.old ≡ idle }
+    ensures { input.new ≡ flit_of flits.now source }
 {
-    let mut inputs = [IDLE; 7];
-    for input in 0..7usize {
-        inputs[input] = flit(flits, sources[input]);
+    if source.is_some() {
+        *input = flit(flits, source);
     }
-    inputs
+}
+
+/// Writes the flits at the inputs 0 to 6 that the links at these places enter, over idle ones.
+pub fn read_inputs(flits: &[Flit], sources: &[Option<u8>; 7], inputs: &mut [Flit; 7])
+    requires { inputs.old ≡ replicate 7 idle }
+    ensures { inputs.new ≡ inputs_by flits.now sources.now }
+{
+    for input in 0..7usize {
+        read_input(flits, sources[input], &mut inputs[input]);
+    }
 }
 
 // What the tile that a link leaves put on it.
