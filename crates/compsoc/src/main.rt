@@ -8,6 +8,7 @@ use std::alloc::Global;
 use std::env;
 use std::process::ExitCode;
 use std::rt::Env;
+use tile_workers::Free;
 
 /// The status where the words of the command line can't be had.
 const NO_WORDS: u8 = 9;
@@ -33,5 +34,5 @@ fn main(rt: HostRuntime) -> ExitCode {
     };
     let mut files = HostFiles::new(&rt);
     let mut sink = HostSink::new(&rt);
-    ExitCode::from(soc_top::compsoc(rt.alloc(), &words, &mut files, &mut sink))
+    ExitCode::from(soc_top::compsoc(&rt, rt.alloc(), &words, &mut files, &mut sink, &Free))
 }

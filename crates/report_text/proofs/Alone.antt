@@ -2,6 +2,7 @@
 use Rattle.std.proofs.Common.{◌≡◌, ℕ, ◌<◌, ◌≤◌, max, Bool, true, false, cond, ◌==◌, nat_eq, List, [], ◌∷◌, ◌++◌, length, map, get_or, fold, find, sum_by, slice_get, option_map, Option, Some, None, Result, Ok, Err, All, IfOk, IsSome, zero, suc, length-append, refl, sym, ap, subst, ◌∙◌, arith}
 use Rattle.std.specs.List.{flat_map, range_with_len, IsDistinct}
 use Rattle.std.specs.Option.{option_map_or, option_and_then}
+use Rattle.std.proofs.lemmas.List.Concat.{flat_map_single}
 use Rattle.std.proofs.lemmas.List.Elements.{All-nil, All-head, All-tail, All-cons, All-from_recursion}
 use Rattle.std.proofs.lemmas.List.FromFn.{get_or-range_with_len, length-range_with_len}
 use Rattle.std.proofs.lemmas.List.Sums.{sum_by-cons}
@@ -32,9 +33,9 @@ use Rattle.vep_manager.specs.Legal.{IsLegal}
 use Rattle.serial_run.specs.declared.end.RunEnd.{RunEnd}
 use Rattle.serial_run.specs.Run.{EndsInStep, tiles_of}
 use Rattle.event_core.specs.Stands.{alone_part, stop_slot}
-use Rattle.report_text.specs.Rows.{part_text}
 use Rattle.report_text.specs.inner.Room.{bundle_rows, most_rows}
-use Rattle.report_text.specs.inner.Logs.{log_on, rows_on, line_on, HoldsAlone}
+use Rattle.report_text.specs.inner.Logs.{log_on, rows_on, traces_on, HoldsAlone}
+use Rattle.report_text.proofs.RowCounts.{few_parts}
 use Rattle.vep_manager.proofs.Laws.{sound_world, legal_apart, grants_of_loads}
 use Rattle.event_core.proofs.Laws.{logs_are_alone, tiles_numbered}
 
@@ -104,7 +105,7 @@ finds_first : (b : Bool) (p : AppPart) (rest : Option AppPart) → b ≡ true �
 finds_first true p rest e = refl
 finds_first false p rest e = cc
 
-All-unmap : {X Y : Type 0} (P : Y → Type 0) (f : X → Y) (xs : List X) → All P (map f xs) → All (λ x. P (f x)) xs
+pub All-unmap : {X Y : Type 0} (P : Y → Type 0) (f : X → Y) (xs : List X) → All P (map f xs) → All (λ x. P (f x)) xs
 All-unmap P f [] all = All-nil (λ x. P (f x))
 All-unmap P f (x ∷ xs) all =
     All-cons (λ y. P (f y)) x xs (All-head P (f x) (map f xs) all)
@@ -132,10 +133,6 @@ same_rows f g [] all = refl
 same_rows f g (p ∷ ps) all =
     ap (λ t. t ++ flat_map f (map (λ q. q.part) ps)) (All-head (λ q. f q.part ≡ g q) p ps all)
     ∙ ap (λ t. g p ++ t) (same_rows f g ps (All-tail (λ q. f q.part ≡ g q) p ps all))
-
-lines_of : (ps : List AppPart) → flat_map part_text (map part_trace ps) ≡ flat_map (λ p. part_text (part_trace p)) ps
-lines_of [] = refl
-lines_of (p ∷ ps) = ap (λ t. part_text (part_trace p) ++ t) (lines_of ps)
 
 rows_fit : (ps : List AppPart) → All (λ p. length p.state.log.rows ≤ p.part.trace) ps
     → length (flat_map (λ p. p.state.log.rows) ps) ≤ sum_by (λ part. part.trace) (map (λ p. p.part) ps)
@@ -249,9 +246,9 @@ holds_for setup end tiles grant bundle sound logs known =
     (parts_fine k d inside).on_tile (found k d inside) in
     let row_lists : All (λ p. rows_on end.stations grant.label p.part ≡ p.state.log.rows) ps =
     λ k d inside. ap (λ log. option_map_or (λ l. l.rows) log []) (held k d inside) in
-    let lines : All (λ p. line_on end.stations grant.label p.part ≡ part_text (part_trace p)) ps =
+    let traces : All (λ p. traces_on end.stations grant.label p.part ≡ part_trace p ∷ []) ps =
     λ k d inside. ap (λ log. option_map_or
-    (λ l. part_text (record { tile = (get_or ps k d).part.tile; end = l.end; cut = l.cut })) log [])
+    (λ l. record { tile = (get_or ps k d).part.tile; end = l.end; cut = l.cut } ∷ []) log [])
     (held k d inside) in
     let rows : flat_map (rows_on end.stations grant.label) bundle.parts ≡ flat_map (λ p. p.state.log.rows) ps =
     ap (flat_map (rows_on end.stations grant.label)) (sym same)
@@ -268,9 +265,11 @@ holds_for setup end tiles grant bundle sound logs known =
         few,
         few_enough setup.world grant.bundle bundle known,
       );
+      few = omega (arith, few_parts setup.world.platform bundle fine, setup.world.platform.tiles_in_range.1);
       rows = rows;
-      lines = ap (flat_map (line_on end.stations grant.label)) (sym same)
-          ∙ same_rows (line_on end.stations grant.label) (λ p. part_text (part_trace p)) ps lines ∙ sym (lines_of ps);
+      parts = ap (flat_map (traces_on end.stations grant.label)) (sym same)
+          ∙ same_rows (traces_on end.stations grant.label) (λ p. part_trace p ∷ []) ps traces
+          ∙ flat_map_single part_trace ps;
     }
 
 pub holds_alone : (setup : Setup) (end : RunEnd) → IsSound setup → IsLegal setup end.history → EndsInStep setup end

@@ -1,9 +1,12 @@
 -- The texts of applications, one behind another.
-use Rattle.std.proofs.Common.{◌≡◌, ℕ, ◌+◌, ◌<◌, ◌≤◌, suc, zero, List, [], ◌∷◌, ◌++◌, map, take, length, get_or, Option, Some, None, All, IfSome, append_assoc, refl, sym, subst, ◌∙◌, ap, arith}
+use Rattle.std.proofs.Common.{◌≡◌, ℕ, ◌+◌, ◌<◌, ◌≤◌, suc, zero, List, [], ◌∷◌, ◌++◌, map, take, length, get_or, Option, Some, None, All, IfSome, append_assoc, append-nil, refl, sym, subst, ◌∙◌, ap, ap₂, arith}
 use Rattle.std.specs.List.{flat_map, filter_map, cons_option, concat}
 use Rattle.std.specs.List.Sorted.{IsSorted, IsPermutation}
-use Rattle.std.specs.Option.{option_to_list}
+use Rattle.std.specs.Option.{option_to_list, option_map_or}
+use Rattle.std.proofs.lemmas.Grind.{flat_map-append}
 use Rattle.std.proofs.lemmas.List.{take_more, take_all}
+use Rattle.soc_base.specs.declared.label.Label.{Label}
+use Rattle.trace_log.specs.Log.{Log}
 use Rattle.std.proofs.lemmas.List.Elements.{All-head, All-tail, filter_map-append}
 use Rattle.trace_log.specs.declared.row.TraceRow.{TraceRow}
 use Rattle.trace_log.specs.Rows.{row_cmp}
@@ -18,7 +21,21 @@ use Rattle.vep_manager.specs.History.{grant_by, grants_of}
 use Rattle.event_core.specs.Stands.{stop_slot}
 use Rattle.report_text.specs.Rows.{row_text, part_text}
 use Rattle.report_text.specs.Report.{app_text, IsAppText, AreAppTexts}
-use Rattle.report_text.specs.inner.Logs.{rows_on, line_on, app_line, grants_in, HoldsAlone}
+use Rattle.report_text.specs.inner.Logs.{log_on, rows_on, line_on, traces_on, app_line, grants_in, HoldsAlone}
+
+-- the lines of parts are those of their traces
+line_of : (o : Option Log) (number : ℕ)
+    → option_map_or (λ log. part_text (record { tile = number; end = log.end; cut = log.cut })) o []
+    ≡ flat_map part_text (option_map_or (λ log. record { tile = number; end = log.end; cut = log.cut } ∷ []) o [])
+line_of (Some log) number = sym (append-nil (part_text (record { tile = number; end = log.end; cut = log.cut })))
+line_of None number = refl
+
+lines_of : (stations : List Station) (label : Label) (parts : List Part)
+    → flat_map (line_on stations label) parts ≡ flat_map part_text (flat_map (traces_on stations label) parts)
+lines_of stations label [] = refl
+lines_of stations label (part ∷ parts) =
+    ap₂ (λ (s t : List ℕ). s ++ t) (line_of (log_on stations label part) part.tile) (lines_of stations label parts)
+    ∙ sym (flat_map-append part_text (traces_on stations label part) (flat_map (traces_on stations label) parts))
 
 -- the first line, the merged rows and the lines of the parts are the text of an application
 pub app_text_of : (setup : Setup) (stations : List Station) (grant : Grant) (parts : List Part) (rows : List TraceRow)
@@ -31,15 +48,18 @@ app_text_of setup stations grant parts rows alone is merged ordered =
     let app = alone_at setup.world.platform alone.bundle grant.start (stop_slot setup.budget grant) in
     let P : List TraceRow → Type 0 = λ kept. IsPermutation kept rows in
     let lines : flat_map (line_on stations grant.label) parts ≡ flat_map part_text (map part_trace app.parts) =
-    ap (flat_map (line_on stations grant.label)) is ∙ alone.lines in
+    ap (flat_map (line_on stations grant.label)) is ∙ lines_of stations grant.label alone.bundle.parts
+    ∙ ap (flat_map part_text) alone.parts in
     record {
-      bundle = alone.bundle;
-      is_bundle = alone.is_bundle;
       trace = record { rows = rows; parts = map part_trace app.parts };
       is_trace = record {
-        rows = subst P (ap (flat_map (rows_on stations grant.label)) is ∙ alone.rows) merged;
-        in_order = ordered;
-        parts = refl;
+        bundle = alone.bundle;
+        is_bundle = alone.is_bundle;
+        is_trace = record {
+          rows = subst P (ap (flat_map (rows_on stations grant.label)) is ∙ alone.rows) merged;
+          in_order = ordered;
+          parts = refl;
+        };
       };
       is_text = ap (λ t. app_line setup grant ++ flat_map row_text rows ++ t) lines
           ∙ append_assoc (app_line setup grant) (flat_map row_text rows)

@@ -1,4 +1,11 @@
+pub mod Numbers
 pub mod RowCounts
 pub mod Prints
 pub mod AppTexts
 pub mod Alone
+pub mod Made
+pub mod Ordered
+pub mod Totals
+pub mod GrantCounts
+pub mod Fresh
+pub mod Shares

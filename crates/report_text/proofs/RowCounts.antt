@@ -23,9 +23,10 @@ below_all (x ∷ xs) n q all found =
     equal_or_later q x n (list_any (nat_eq q) xs) (All-head (λ y. y < n) x xs all)
     (below_all xs n q (All-tail (λ y. y < n) x xs all)) found
 
-pub few_rows : (platform : Platform) (bundle : Bundle) → IsWellFormed platform bundle
-    → sum_by (λ part. part.trace) bundle.parts < 2 ^ 64
-few_rows platform bundle fine =
+-- a bundle has at most a part on each tile
+pub few_parts : (platform : Platform) (bundle : Bundle) → IsWellFormed platform bundle
+    → length bundle.parts ≤ platform.tiles
+few_parts platform bundle fine =
     let tiles : List ℕ = map (λ part. part.tile) bundle.parts in
     let on_tiles : All (λ tile. tile < platform.tiles) tiles =
     All-map (λ tile. tile < platform.tiles) (λ part. part.tile) bundle.parts
@@ -34,11 +35,15 @@ few_rows platform bundle fine =
     let few : length tiles ≤ platform.tiles =
     length-le_from_distinct_below tiles platform.tiles fine.apart
     (λ q. below_all tiles platform.tiles q on_tiles) in
+    omega (arith, few, length-map bundle.parts (λ part. part.tile))
+
+pub few_rows : (platform : Platform) (bundle : Bundle) → IsWellFormed platform bundle
+    → sum_by (λ part. part.trace) bundle.parts < 2 ^ 64
+few_rows platform bundle fine =
     let traces = sum_by-le (λ part. part.trace) MOST_ROWS bundle.parts
     (All-weaker (IsWellFormedPart platform) (λ part. part.trace ≤ 4096) (λ part is. is.trace_fits) bundle.parts
     fine.parts) in
-    let same : length tiles ≡ length bundle.parts = length-map bundle.parts (λ part. part.tile) in
-    omega (arith, few, traces, same, platform.tiles_in_range.1)
+    omega (arith, traces, few_parts platform bundle fine, platform.tiles_in_range.1)
 
 -- where `old` has the items of the first lists in another order, there is room for those of one list more
 pub room_for_more : {X Y : Type 0} (f : X → List Y) (xs : List X) (i : ℕ) (x : X) (old : List Y) → i < length xs

@@ -28,8 +28,8 @@ use tile_core::Station;
 use trace_log::{PartLog, TraceRow, merge};
 use vep_manager::{Entry, Reply, Setup, reply_grant};
 
-// The log of a load on the tile of a part, if there is one.
-fn part_log<'s>(stations: &'s [Station], label: Label, part: &Part) -> Option<&'s PartLog>
+/// Answers the log of a load on the tile of a part, if there is one.
+pub fn part_log<'s>(stations: &'s [Station], label: Label, part: &Part) -> Option<&'s PartLog>
     ensures { option_copied result ≡ log_on stations.entry.now label part.now }
 {
     let station = stations.get(usize::from(part.tile))?;
@@ -159,8 +159,8 @@ fn put_parts_app<S: Sink>(
     put_part_lines(printer, stations, grant.label, parts);
 }
 
-// The parts of a grant's bundle, in the order of the file.
-fn parts_of<'s>(setup: &'s Setup, grant: &Grant) -> &'s [Part]
+/// Answers the parts of a grant's bundle, in the order of the file.
+pub fn parts_of<'s>(setup: &'s Setup, grant: &Grant) -> &'s [Part]
     ensures { ArePartsOf setup.entry.now.world grant.now result.now }
 {
     match setup.world.bundle(grant.bundle) {

@@ -1,6 +1,7 @@
 pub mod Each
 pub mod Ending
 pub mod Fresh
+pub mod Laws
 pub mod Ranges
 pub mod Sources
 pub mod Stepping

@@ -1,9 +1,13 @@
 -- How a request ends, from what its files gave and how its text was written.
-use Rattle.std.proofs.Common.{ℕ, List, [], Option, refl, sym, subst}
+use Rattle.std.proofs.Common.{◌≡◌, ℕ, Bool, List, [], Option, refl, sym, subst}
 use Rattle.soc_io.specs.Reading.{Held}
 use Rattle.vep_manager.specs.declared.setup.Setup.{Setup}
-use Rattle.soc_top.specs.declared.request.AloneWords.{AloneWords}
-use Rattle.soc_top.specs.declared.request.RunWords.{RunWords}
+use Rattle.vep_manager.specs.declared.reply.Entry.{Entry}
+use Rattle.platform_model.specs.declared.platform.Platform.{Platform}
+use Rattle.bundle_model.specs.declared.world.Named.{Named}
+use Rattle.command_words.specs.declared.request.AloneWords.{AloneWords}
+use Rattle.command_words.specs.declared.request.CheckWords.{CheckWords}
+use Rattle.command_words.specs.declared.request.RunWords.{RunWords}
 use Rattle.soc_top.specs.declared.inputs.Inputs.{Inputs}
 use Rattle.soc_top.specs.declared.fault.TopFault.TheVariants.{NoMemory}
 use Rattle.soc_top.specs.declared.ending.Ending.{Ending}
@@ -11,11 +15,11 @@ use Rattle.soc_top.specs.declared.ending.Ending.TheVariants.{Done, Unwritten, Re
 use Rattle.soc_top.specs.Wants.{Input}
 use Rattle.soc_top.specs.Wants.Want.{PlatformWant}
 use Rattle.soc_top.specs.Order.{Order, AreRead, Cause}
-use Rattle.soc_top.specs.Answers.{Texts, Ends}
+use Rattle.soc_top.specs.Answers.{Texts, Ends, Concludes}
 use Rattle.soc_top.specs.Alone.{bundle_order, alone_order, alone_inputs, IsAloneText, AloneTexts}
-use Rattle.vep_manager.specs.Legal.{IsRoundRobin}
+use Rattle.report_text.specs.Report.{IsReport}
 use Rattle.soc_top.specs.Run.{run_order, inputs_of, GivesSetup, IsReportOf, RunTexts}
-use Rattle.soc_top.specs.inner.Ends.{Concludes}
+use Rattle.soc_top.specs.Check.{checked_order, check_order, check_inputs, verdicts_text, CheckTexts}
 use Rattle.soc_top.proofs.Exchanges.{exchange_of}
 use Rattle.soc_top.proofs.Turns.{run_memory}
 
@@ -42,11 +46,33 @@ alone_ended told read read_now old new before now request inputs ending gives co
     gives (λ text is. (inputs.platform, (inputs.bundle, refl, is)))
     (PlatformWant request.platform, ([], (bundle_order request, refl)), tt) concludes
 
-pub run_ended : (told : Option Held) (read read_now : ℕ) (old new : Option (List ℕ)) (before now : ℕ)
-    (request : RunWords) (setup : Setup) (ending : Ending)
-    → GivesSetup told request setup → Concludes (IsReportOf IsRoundRobin setup) old before new now ending
-    → Ends (exchange_of told read read_now old new before now) (run_order request) (RunTexts IsRoundRobin request) ending
-run_ended told read read_now old new before now request setup ending gives concludes =
-    ended told read read_now old new before now (run_order request) (RunTexts IsRoundRobin request) (IsReportOf IsRoundRobin setup)
-    (inputs_of setup) ending gives.0 (λ text is. (setup, refl, gives.1, is))
-    (run_memory told read read_now request) concludes
+pub run_ended : (Kept : Setup → List Entry → Type 0) (told : Option Held) (read read_now : ℕ)
+    (old new : Option (List ℕ)) (before now : ℕ) (request : RunWords) (setup : Setup) (ending : Ending)
+    → GivesSetup told request setup → Concludes (IsReportOf Kept setup request.state) old before new now ending
+    → Ends (exchange_of told read read_now old new before now) (run_order request) (RunTexts Kept request) ending
+run_ended Kept told read read_now old new before now request setup ending gives concludes =
+    ended told read read_now old new before now (run_order request) (RunTexts Kept request)
+    (IsReportOf Kept setup request.state) (inputs_of setup) ending gives.0
+    (λ text is. (setup, refl, gives.1, is)) (run_memory told read read_now request) concludes
+
+-- a report that was written is one of a history that is kept
+pub reported : (Kept : Setup → List Entry → Type 0) (setup : Setup) (state : Bool) (history : List Entry)
+    (old new : Option (List ℕ)) (before now : ℕ) (ending : Ending)
+    → Kept setup history → Concludes (IsReport setup history state) old before new now ending
+    → Concludes (IsReportOf Kept setup state) old before new now ending
+reported Kept setup state history old new before now Done kept (text, is, written) =
+    (text, (history, kept, is), written)
+reported Kept setup state history old new before now Unwritten kept (text, is, front, rose) =
+    (text, (history, kept, is), front, rose)
+reported Kept setup state history old new before now (Refused fault) kept refused = refused
+
+pub check_ended : (told : Option Held) (read read_now : ℕ) (old new : Option (List ℕ)) (before now : ℕ)
+    (request : CheckWords) (platform : Platform) (catalog : List Named) (ending : Ending)
+    → AreRead told (check_order request) (check_inputs platform catalog)
+    → Concludes (λ text. text ≡ verdicts_text catalog request) old before new now ending
+    → Ends (exchange_of told read read_now old new before now) (check_order request) (CheckTexts request) ending
+check_ended told read read_now old new before now request platform catalog ending gives concludes =
+    ended told read read_now old new before now (check_order request) (CheckTexts request)
+    (λ text. text ≡ verdicts_text catalog request) (check_inputs platform catalog) ending gives
+    (λ text is. (platform, (catalog, refl, is)))
+    (PlatformWant request.platform, ([], (checked_order request, refl)), tt) concludes

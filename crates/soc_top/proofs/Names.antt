@@ -1,4 +1,4 @@
--- The bundle files that commands name, one command after another, and the scripts that words name.
+-- The bundle files that commands name, one command after another.
 use Rattle.std.proofs.Common.{◌≡◌, ℕ, ◌+◌, ◌<◌, ◌≤◌, Bool, true, false, cond, ◌||◌, List, [], ◌∷◌, ◌++◌, length, length-append, fold, take, drop, get_or, slice_get, Option, Some, None, All, refl, sym, ap, ◌∙◌, arith}
 use Rattle.std.specs.List.{cons_option}
 use Rattle.std.specs.Str.{bytes_eq}
@@ -98,23 +98,3 @@ named_among known (name ∷ all) =
     All-cons (λ other. names (fold with_name (with_name known name) all) other ≡ true) name all
     (kept_from (with_name known name) all name (added_with (names known name) known name refl))
     (named_among (with_name known name) all)
-
-pub few_scripts : (words : List (List ℕ)) → 4 ≤ length words → length words ≤ 3 + MOST_SCRIPTS
-    → (0 < length (drop 3 words)) × (length (drop 3 words) ≤ MOST_SCRIPTS)
-few_scripts words some few =
-    let rest = length-drop 3 words in
-    (omega (arith, rest), omega (arith, rest))
-
--- the name of a script goes from the words that are left to the names
-pub word_moved : (words : List (List ℕ)) (n : ℕ) (names new : List (List ℕ)) (text word : List ℕ)
-    → names ++ drop n words ≡ drop 3 words → slice_get words n ≡ Some word → new ≡ names ++ text ∷ [] → text ≡ word
-    → (new ++ drop (n + 1) words ≡ drop 3 words) × (n + 1 ≤ length words)
-word_moved words n names new text word so_far is appended same =
-    let inside : n < length words = slice_get_within words n word is in
-    let here : get_or words n word ≡ word = get_or_from_slice_get words n word word is in
-    let split : drop n words ≡ text ∷ drop (n + 1) words =
-    drop_more words n word inside ∙ ap (λ w. w ∷ drop (n + 1) words) (here ∙ sym same) in (
-      ap (λ some. some ++ drop (n + 1) words) appended ∙ append_assoc names (text ∷ []) (drop (n + 1) words)
-          ∙ ap (λ rest. names ++ rest) (sym split) ∙ so_far,
-      omega (arith, inside),
-    )

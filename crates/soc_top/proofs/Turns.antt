@@ -12,7 +12,8 @@ use Rattle.bundle_model.specs.declared.world.Named.{Named}
 use Rattle.script_file.specs.declared.command.Command.{Command}
 use Rattle.script_file.specs.declared.command.Script.{Script}
 use Rattle.vep_manager.specs.declared.setup.Setup.{Setup}
-use Rattle.soc_top.specs.declared.request.RunWords.{RunWords}
+use Rattle.command_words.specs.declared.request.RunWords.{RunWords}
+use Rattle.command_words.specs.declared.request.CheckWords.{CheckWords}
 use Rattle.soc_top.specs.declared.fault.TopFault.{TopFault}
 use Rattle.soc_top.specs.declared.fault.TopFault.TheVariants.{NoMemory}
 use Rattle.soc_top.specs.Wants.{Gives, Refuses}
@@ -21,6 +22,8 @@ use Rattle.soc_top.specs.Wants.Input.{PlatformRead, ScriptRead, BundleRead}
 use Rattle.soc_top.specs.Order.{Leaves, AreRead, Cause}
 use Rattle.soc_top.specs.Order.Order.{Whole}
 use Rattle.soc_top.specs.Run.{bundle_names, bundles_order, commands_in, scripts_order, after_platform, run_order, GivesSetup}
+use Rattle.soc_top.specs.Check.{checked_names, checked_order, check_order}
+use Rattle.soc_top.specs.inner.Checking.{StopsChecking}
 use Rattle.soc_top.specs.inner.Naming.{all_commands, InTime, IsAdded, AreScripts, IsJudged, catalog_names}
 use Rattle.soc_top.proofs.Orders.{leaves_then, cause_at, cause_after}
 use Rattle.soc_top.proofs.Stops.{not_whole}
@@ -213,6 +216,21 @@ pub script_stops : (told : Option Held) (before mid now : ℕ) (request : RunWor
 script_stops told before mid now request platform fault later gives cause =
     cause_after told before mid now (run_order request) (scripts_order platform request.scripts [])
     (PlatformRead platform ∷ []) fault later (gives, refl) (cause platform)
+
+-- the readings of a check
+pub check_memory : (told : Option Held) (before now : ℕ) (request : CheckWords)
+    → Cause told before now (check_order request) NoMemory
+check_memory told before now request = (PlatformWant request.platform, ([], (checked_order request, refl)), tt)
+
+pub check_stops : (told : Option Held) (before mid now : ℕ) (request : CheckWords) (platform : Platform)
+    (fault : TopFault)
+    → before ≤ mid → Gives told (PlatformWant request.platform) (PlatformRead platform)
+    → StopsChecking told mid now platform request fault → Cause told before now (check_order request) fault
+check_stops told before mid now request platform fault later gives (inl memory) =
+    subst (Cause told before now (check_order request)) (sym memory) (check_memory told before now request)
+check_stops told before mid now request platform fault later gives (inr cause) =
+    cause_after told before mid now (check_order request) (bundles_order platform (checked_names request))
+    (PlatformRead platform ∷ []) fault later (gives, refl) cause
 
 pub bundle_stops : (told : Option Held) (before mid now : ℕ) (request : RunWords) (platform : Platform)
     (scripts : List Script) (fault : TopFault)

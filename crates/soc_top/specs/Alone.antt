@@ -7,9 +7,9 @@ use Rattle.alone_model.specs.declared.trace.AppTrace.{AppTrace}
 use Rattle.alone_model.specs.App.{alone_at}
 use Rattle.alone_model.specs.Trace.{IsTraceOf}
 use Rattle.report_text.specs.Alone.{alone_text}
-use Rattle.soc_top.specs.declared.request.AloneWords.{AloneWords}
-use Rattle.soc_top.specs.declared.request.Request.TheVariants.{Alone}
-use Rattle.soc_top.specs.Request.{asked_of}
+use Rattle.command_words.specs.declared.request.AloneWords.{AloneWords}
+use Rattle.command_words.specs.declared.request.Request.TheVariants.{Alone}
+use Rattle.command_words.specs.Request.{asked_of}
 use Rattle.soc_top.specs.Exchange.{Exchange}
 use Rattle.soc_top.specs.Wants.{Input}
 use Rattle.soc_top.specs.Wants.Want.{PlatformWant, BundleWant}

@@ -1,9 +1,10 @@
 -- How a request ends, and with which status.
-use Rattle.std.specs.Prelude.{◌≡◌, ℕ, ◌⊎◌, List, Option, Some}
+use Rattle.std.specs.Prelude.{◌≡◌, ℕ, ◌⊎◌, Bool, List, Option, Some}
 use Rattle.soc_io.specs.Counts.{Rose}
 use Rattle.soc_io.specs.Reading.{Held}
-use Rattle.soc_io.specs.Writing.{Appends, AppendsFront}
+use Rattle.soc_io.specs.Writing.{Appends, AppendsFront, Printed}
 use Rattle.soc_top.specs.declared.fault.TopFault.{TopFault}
+use Rattle.soc_top.specs.declared.fault.TopFault.TheVariants.{NoMemory}
 use Rattle.soc_top.specs.declared.ending.Ending.{Ending}
 use Rattle.soc_top.specs.declared.ending.Ending.TheVariants.{Done, Unwritten, Refused}
 use Rattle.soc_top.specs.Exchange.{Exchange, Says}
@@ -41,3 +42,11 @@ pub record Answers (e : Exchange) (order : Order) (texts : Texts) (status : ℕ)
   -- and what they allow is done, where no write fails either
   pub complete : (held : Held) → e.held ≡ Some held → (Rose e.read_faults e.read_faults_now → ⊥)
       → (Rose e.write_faults e.write_faults_now → ⊥) → IsAllowed held order → (status ≡ 0) ⊎ (status ≡ 7)
+
+-- a text is written of which this is true; or a front of it, where a write failed; or memory was wanted
+abbrev pub Concludes : (List ℕ → Type 0) → Option (List ℕ) → ℕ → Option (List ℕ) → ℕ → Ending → Type 0
+Concludes IsText old before new now Done = (text : List ℕ) × IsText text × Appends old text new
+Concludes IsText old before new now Unwritten =
+    (text : List ℕ) × IsText text × AppendsFront old text new × Rose before now
+Concludes IsText old before new now (Refused fault) =
+    (fault ≡ NoMemory) × ((failed : Bool) × Printed (fault_line fault) old before new now failed)

@@ -1,4 +1,3 @@
-pub mod Request
 pub mod Wants
 pub mod Order
 pub mod Faults
@@ -6,4 +5,6 @@ pub mod Exchange
 pub mod Answers
 pub mod Alone
 pub mod Run
+pub mod Check
+pub mod Generate
 pub mod inner

@@ -1,5 +1,5 @@
 -- The command `run`: which files it reads, the setup that they give, and what it writes.
-use Rattle.std.specs.Prelude.{◌≡◌, ℕ, ◌-◌, List, [], ◌∷◌, ◌++◌, length, map, fold, if◌then◌else◌, Some, Option}
+use Rattle.std.specs.Prelude.{◌≡◌, ℕ, zero, suc, ◌-◌, Bool, List, [], ◌∷◌, ◌++◌, length, map, fold, if◌then◌else◌, Some, Option}
 use Rattle.soc_base.specs.declared.limits.TheConstants.{MOST_COMMANDS}
 use Rattle.soc_base.specs.Time.{slot_up_of}
 use Rattle.soc_io.specs.Reading.{Held}
@@ -8,12 +8,12 @@ use Rattle.bundle_model.specs.Sets.{names}
 use Rattle.script_file.specs.declared.command.Command.{Command}
 use Rattle.vep_manager.specs.declared.setup.Setup.{Setup}
 use Rattle.vep_manager.specs.declared.reply.Entry.{Entry}
-use Rattle.vep_manager.specs.Legal.{IsRoundRobin}
+use Rattle.vep_manager.specs.Legal.{IsLegal, IsComplete, IsRoundRobin}
 use Rattle.vep_manager.specs.Loads.{loaded_names}
 use Rattle.report_text.specs.Report.{IsReport}
-use Rattle.soc_top.specs.declared.request.RunWords.{RunWords}
-use Rattle.soc_top.specs.declared.request.Request.TheVariants.{Run}
-use Rattle.soc_top.specs.Request.{asked_of}
+use Rattle.command_words.specs.declared.request.RunWords.{RunWords}
+use Rattle.command_words.specs.declared.request.Request.TheVariants.{Run}
+use Rattle.command_words.specs.Request.{asked_of}
 use Rattle.soc_top.specs.Exchange.{Exchange}
 use Rattle.soc_top.specs.Wants.{Input}
 use Rattle.soc_top.specs.Wants.Want.{PlatformWant, ScriptWant, JudgedWant}
@@ -73,19 +73,28 @@ GivesSetup told request setup =
     AreRead told (run_order request) (inputs_of setup) × EndsAt request setup
 
 -- the text is the report of a history of a setup that is one of these (`Kept`), each application's rows and
--- parts being the trace that it has alone
-abbrev pub IsReportOf : (Setup → List Entry → Type 0) → Setup → List ℕ → Type 0
-IsReportOf Kept setup text = (history : List Entry) × Kept setup history × IsReport setup history text
+-- parts being the trace that it has alone, with the state of the tiles or without it
+abbrev pub IsReportOf : (Setup → List Entry → Type 0) → Setup → Bool → List ℕ → Type 0
+IsReportOf Kept setup state text = (history : List Entry) × Kept setup history × IsReport setup history state text
 
 -- the report, by what the files gave: a setup, of which its own type says what its loads are
 abbrev pub RunTexts : (Setup → List Entry → Type 0) → RunWords → List Input → List ℕ → Type 0
 RunTexts Kept request inputs text =
-    (setup : Setup) × (inputs ≡ inputs_of setup) × EndsAt request setup × IsReportOf Kept setup text
+    (setup : Setup) × (inputs ≡ inputs_of setup) × EndsAt request setup × IsReportOf Kept setup request.state text
 
--- how a request to run may end with a status, on one thread: the history is the legal one of all commands,
--- in rounds
+-- which histories a run may have. On one thread alone (no workers) it is the legal one of all commands in
+-- rounds; where each session is a thread it is any legal one of all commands.
+abbrev pub IsHistoryBy : ℕ → Setup → List Entry → Type 0
+IsHistoryBy zero setup history = IsRoundRobin setup history
+IsHistoryBy (suc workers) setup history = IsLegal setup history × IsComplete setup history
+
+-- how a request to run may end with a status, where its history is one of these
+abbrev pub RunAnswersBy : (Setup → List Entry → Type 0) → Exchange → RunWords → ℕ → Type 0
+RunAnswersBy Kept e request status = Answers e (run_order request) (RunTexts Kept request) status
+
+-- the same, by how many workers are asked for
 abbrev pub RunAnswers : Exchange → RunWords → ℕ → Type 0
-RunAnswers e request status = Answers e (run_order request) (RunTexts IsRoundRobin request) status
+RunAnswers e request status = RunAnswersBy (IsHistoryBy request.workers) e request status
 
 -- the same, where the words ask for one
 abbrev pub AnswersRun : Exchange → List (List ℕ) → ℕ → Type 0

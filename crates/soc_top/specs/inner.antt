@@ -1,4 +1,4 @@
 -- Definitions that only clauses of private functions cite.
 pub mod Loading
 pub mod Naming
-pub mod Ends
+pub mod Checking

@@ -2,17 +2,17 @@
 
 ghost use Rattle.std.specs.Prelude.{◌≡◌, ◌*◌, ◌≤◌};
 ghost use Rattle.bundle_model.specs.WellFormed.{IsWellFormed};
-ghost use Rattle.soc_top.specs.Request.{IsInForm};
+ghost use Rattle.command_words.specs.Request.{IsAloneInForm};
 ghost use Rattle.soc_top.specs.Exchange.{exchanged};
 ghost use Rattle.soc_top.specs.Alone.{alone_order, first_slot, last_slot, IsAloneText, AloneTexts, AloneAnswers};
 ghost use Rattle.soc_top.specs.Answers.{Ends};
-ghost use Rattle.soc_top.specs.inner.Ends.{Concludes};
+ghost use Rattle.soc_top.specs.Answers.{Concludes};
 
 use crate::ending::{Ending, code, refuse};
 use crate::fault::TopFault;
 use crate::inputs::{Inputs, load};
-use crate::request::AloneWords;
 use alone_model::alone;
+use command_words::AloneWords;
 use platform_model::Platform;
 use report_text::write_trace;
 use soc_base::{LAST_CYCLE, slot_up};
@@ -21,7 +21,7 @@ use std::alloc::Global;
 
 // The slots from and to which an application is followed.
 fn span(platform: &Platform, request: &AloneWords) -> (u64, u64)
-    requires { IsInForm request.now }
+    requires { IsAloneInForm request.now }
     ensures first { result.0 ≡ first_slot platform.now request.now }
     ensures last { result.1 ≡ last_slot platform.now request.now }
     ensures ordered { result.0 ≤ result.1 }
@@ -34,7 +34,7 @@ fn span(platform: &Platform, request: &AloneWords) -> (u64, u64)
 
 // Follows the application, and writes the text of its trace, or the line of a fault at want of memory.
 fn run<S: Sink>(alloc: Global, request: &AloneWords, inputs: &Inputs, sink: &mut S) -> Ending
-    requires in_form { IsInForm request.now }
+    requires in_form { IsAloneInForm request.now }
     requires well_formed { IsWellFormed inputs.now.platform inputs.now.bundle }
     ensures counted { S.faults sink.old ≤ S.faults sink.new }
     ensures concludes { Concludes (IsAloneText request.now inputs.now.platform inputs.now.bundle) (S.written sink.old) (S.faults sink.old) (S.written sink.new) (S.faults sink.new) result }
@@ -63,7 +63,7 @@ fn end<F: Files, S: Sink>(
     files: &mut F,
     sink: &mut S,
 ) -> Ending
-    requires { IsInForm request.now }
+    requires { IsAloneInForm request.now }
     ensures { Ends (exchanged F.holds F.faults S.written S.faults files.old files.new sink.old sink.new) (alone_order request.now) (AloneTexts request.now) result }
 {
     match load(alloc, request, files) {
@@ -84,7 +84,7 @@ pub fn alone_call<F: Files, S: Sink>(
     files: &mut F,
     sink: &mut S,
 ) -> u8
-    requires { IsInForm request.now }
+    requires { IsAloneInForm request.now }
     ensures { AloneAnswers (exchanged F.holds F.faults S.written S.faults files.old files.new sink.old sink.new) request.now result }
 {
     code(&end(alloc, request, files, sink))

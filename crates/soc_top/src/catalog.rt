@@ -25,8 +25,8 @@ fn is_known(known: &[Text], name: &Text) -> bool
     known.iter().any(|other| other.as_str() == name.as_str())
 }
 
-// Appends a name that isn't in the list.
-fn add_name(alloc: Global, known: &mut Vec<Text>, name: &Text) -> Result<(), NoMemory>
+/// Appends a name that isn't in the list.
+pub fn add_name(alloc: Global, known: &mut Vec<Text>, name: &Text) -> Result<(), NoMemory>
     ensures { OnOk result (known.new.items ≡ with_name known.old.items name.now) }
 {
     if !is_known(known.as_slice(), name) {

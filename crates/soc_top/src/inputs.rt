@@ -7,8 +7,8 @@ ghost use Rattle.soc_top.specs.Alone.{alone_order, alone_inputs};
 
 use crate::fault::TopFault;
 use crate::file::{load_kept, load_platform};
-use crate::request::AloneWords;
 use bundle_model::Bundle;
+use command_words::AloneWords;
 use platform_model::Platform;
 use soc_io::Files;
 use std::alloc::Global;

@@ -244,14 +244,22 @@ fn reports(rt: HostRuntime) -> Result<(), Fail> {
         add(alloc, &mut shelf, "one.toml", platform.as_str())?;
         add(alloc, &mut shelf, "s.txt", scripts.0)?;
         add(alloc, &mut shelf, "t.txt", scripts.1)?;
-        let line = format!(in alloc; "run one.toml {words}")?;
         let text = format!(in alloc; "compsoc report 1\nbudget {report}end\n")?;
-        expect(
-            &rt,
-            alloc,
-            shelf.as_slice(),
-            (line.as_str(), 0, 0, 0, text.as_str()),
-        )?;
+        // The history of one session is the same where it is a thread.
+        let ways = if words.split_whitespace().count() == 2 {
+            ["", " --workers 1"].as_slice()
+        } else {
+            ["", " --workers 0"].as_slice()
+        };
+        for workers in ways {
+            let line = format!(in alloc; "run one.toml {words}{workers}")?;
+            expect(
+                &rt,
+                alloc,
+                shelf.as_slice(),
+                (line.as_str(), 0, 0, 0, text.as_str()),
+            )?;
+        }
     }
     Ok(())
 }

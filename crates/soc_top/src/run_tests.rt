@@ -4,7 +4,9 @@ use crate::alone_tests::shelf_of_faults;
 use crate::tests::{File, Row, add, expect};
 use std::alloc::Global;
 use std::process::Abort;
+use std::sync::Wait;
 use std::test::Fail;
+use std::thread::Threads;
 
 #[test]
 fn words_and_files_before_the_bundles(rt: HostRuntime) -> Result<(), Fail> {
@@ -87,8 +89,8 @@ fn words_and_files_before_the_bundles(rt: HostRuntime) -> Result<(), Fail> {
 
 // Runs two scripts, of which the second can be left out of the words, and of which the read with this
 // number fails.
-fn expect_scripts(
-    rt: &impl Abort,
+fn expect_scripts<R: Abort + Threads + Wait + Sync>(
+    rt: &R,
     alloc: Global,
     scripts: (&str, &str),
     row: Row<'_>,

@@ -4,7 +4,7 @@ ghost use Rattle.std.specs.Prelude.{◌≡◌, ◌*◌, ◌<◌, ◌≤◌, ◌�
 ghost use Rattle.soc_base.specs.Time.{slot_up_of};
 ghost use Rattle.vep_manager.specs.Setup.{IsSound};
 ghost use Rattle.soc_top.specs.declared.fault.TopFault.TheVariants.{NoMemory as Unheld};
-ghost use Rattle.soc_top.specs.Request.{IsRunInForm};
+ghost use Rattle.command_words.specs.Request.{IsRunInForm};
 ghost use Rattle.soc_top.specs.Wants.Input.{BundleRead};
 ghost use Rattle.soc_top.specs.Order.{AreRead, Cause};
 ghost use Rattle.soc_top.specs.Run.{bundle_names, bundles_order, run_order, GivesSetup};
@@ -13,9 +13,9 @@ ghost use Rattle.soc_top.specs.inner.Naming.{all_commands, InTime, catalog_names
 use crate::catalog::{bundle_names, read_catalog};
 use crate::fault::TopFault;
 use crate::file::load_platform;
-use crate::request::RunWords;
 use crate::script::load_scripts;
 use bundle_model::{Named, World};
+use command_words::RunWords;
 use platform_model::Platform;
 use script_file::Script;
 use soc_base::{

@@ -6,7 +6,10 @@ use soc_base::Words;
 use soc_io::{MemFiles, MemSink};
 use std::alloc::{AllocError, Global};
 use std::process::Abort;
+use std::sync::Wait;
 use std::test::Fail;
+use std::thread::Threads;
+use tile_workers::Free;
 
 /// A file by its name and its bytes.
 pub type File = (String, Vec<u8>);
@@ -40,14 +43,26 @@ pub fn bundle(
     )
 }
 
+// A text without the line of the sum over the platform, which tests of their own compare.
+fn without_sum(alloc: Global, text: &str) -> Result<String, AllocError> {
+    let mut rest = String::with_capacity(alloc, text.len())?;
+    for line in text.split_inclusive('\n') {
+        if !line.starts_with("platform ") {
+            rest.push_str(line)?;
+        }
+    }
+    Ok(rest)
+}
+
 // Runs a line's words, and hands back the status and what was written.
-fn ran(
+fn ran<R: Threads + Wait + Sync>(
+    rt: &R,
     alloc: Global,
     shelf: &[File],
     line: &str,
     read: u64,
     write: u64,
-) -> Result<(u8, Vec<u8>), Fail> {
+) -> Result<(u8, String), Fail> {
     let mut words = Words::new(alloc);
     for word in line.split_whitespace() {
         words.add(word)?;
@@ -57,27 +72,77 @@ fn ran(
         files.add(name.as_str(), bytes.as_slice())?;
     }
     let mut sink = MemSink::new(alloc, 16384, Vec::from_slice(alloc, &[write])?)?;
-    let status = compsoc(alloc, &words, &mut files, &mut sink);
-    Ok((status, Vec::from_slice(alloc, sink.written())?))
+    let status = compsoc(rt, alloc, &words, &mut files, &mut sink, &Free);
+    let written = std::str::from_utf8(sink.written())?;
+    Ok((status, String::from_str(alloc, written)?))
 }
 
 /// A run: the words, the numbers of the read and of the write that fail, or 0, the status, and what is
 /// written.
 pub type Row<'a> = (&'a str, u64, u64, u8, &'a str);
 
-/// Runs a line over files, and compares the status and what was written.
-pub fn expect(rt: &impl Abort, alloc: Global, shelf: &[File], row: Row<'_>) -> Result<(), Fail> {
+/// Runs a line over files, and compares the status and what was written, but for the line of the sum over
+/// the platform.
+pub fn expect<R: Abort + Threads + Wait + Sync>(
+    rt: &R,
+    alloc: Global,
+    shelf: &[File],
+    row: Row<'_>,
+) -> Result<(), Fail> {
     let (line, read, write, status, text) = row;
-    let (ended, written) = ran(alloc, shelf, line, read, write)?;
+    let (ended, written) = ran(rt, alloc, shelf, line, read, write)?;
+    let written = without_sum(alloc, written.as_str())?;
     assert_eq!(rt;
         ended,
         status,
         "{line} with read {read} and write {write} failing"
     );
     assert_eq!(rt;
-        written.as_slice(),
-        text.as_bytes(),
+        written.as_str(),
+        text,
         "{line} with read {read} and write {write} failing"
     );
     Ok(())
+}
+
+/// Runs a line over files that can all be read, and compares the status and all that was written.
+pub fn expect_whole<R: Abort + Threads + Wait + Sync>(
+    rt: &R,
+    alloc: Global,
+    shelf: &[File],
+    row: (&str, u8, &str),
+) -> Result<(), Fail> {
+    let (line, status, text) = row;
+    let (ended, written) = ran(rt, alloc, shelf, line, 0, 0)?;
+    assert_eq!(rt; ended, status, "{line}");
+    assert_eq!(rt; written.as_str(), text, "{line}");
+    Ok(())
+}
+
+/// Runs a line over files that can all be read, and checks that what was written, but for the line of the sum
+/// over the platform, is one of three texts.
+pub fn expect_one_of<R: Abort + Threads + Wait + Sync>(
+    rt: &R,
+    alloc: Global,
+    shelf: &[File],
+    line: &str,
+    texts: (&str, &str, &str),
+) -> Result<(), Fail> {
+    let (ended, written) = ran(rt, alloc, shelf, line, 0, 0)?;
+    let written = without_sum(alloc, written.as_str())?;
+    let text = written.as_str();
+    assert_eq!(rt; ended, 0, "{line}");
+    assert!(rt; text == texts.0 || text == texts.1 || text == texts.2);
+    Ok(())
+}
+
+/// Runs a line without files, and hands back what was written, which ends with status 0.
+pub fn written_by<R: Abort + Threads + Wait + Sync>(
+    rt: &R,
+    alloc: Global,
+    line: &str,
+) -> Result<String, Fail> {
+    let (ended, written) = ran(rt, alloc, &[], line, 0, 0)?;
+    assert_eq!(rt; ended, 0, "{line}");
+    Ok(written)
 }

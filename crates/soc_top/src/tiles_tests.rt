@@ -1,11 +1,11 @@
 //! Platforms of several tiles: applications of communicating parts, by `alone` and by `run`.
 
-use crate::tests::{File, add, expect};
+use crate::tests::{File, add, expect, expect_one_of};
 use std::alloc::{AllocError, Global};
 use std::test::Fail;
 
 // Two tiles, with a link each way.
-const TWO: &str =
+pub const TWO: &str =
     "[[link]]\nfrom = 0\nout = 0\nto = 1\ninput = 0\n[[link]]\nfrom = 1\nout = 0\nto = 0\ninput = 0\n";
 
 // Three tiles in a line: links 0 and 1 lead from tile 0 over tile 1 to tile 2, links 2 and 3 lead back.
@@ -14,7 +14,7 @@ const THREE: &str =
     "[[link]]\nfrom = 0\nout = 0\nto = 1\ninput = 0\n[[link]]\nfrom = 1\nout = 0\nto = 2\ninput = 0\n[[link]]\nfrom = 2\nout = 0\nto = 1\ninput = 1\n[[link]]\nfrom = 1\nout = 1\nto = 0\ninput = 0\n";
 
 // A part that sends two words, and one that receives them.
-const PIPE: &str =
+pub const PIPE: &str =
     "version = 1\n[[part]]\ntile = 0\nslots = [0]\nbase = 0\nlen = 64\nentry = 0\ntrace = 16\nkinds = [\"send\"]\nports = [0]\nimage = \"37030080232063102320631073000000\"\n[[part]]\ntile = 1\nslots = [0, 1]\nbase = 0\nlen = 64\nentry = 0\ntrace = 16\nkinds = [\"recv\"]\nports = [0]\nimage = \"37030080832243108322431073000000\"\n[[pair]]\na = [0, 0]\nb = [1, 0]\nthere = { path = [0], slots = [1] }\nback = { path = [1], slots = [5] }\n";
 
 // The first word misses slot 9, is injected in slot 17 and is there from cycle 152 on; the second is
@@ -178,12 +178,47 @@ fn applications_beside_each_other(rt: HostRuntime) -> Result<(), Fail> {
         let mut shelf = shelf_of_tiles(alloc)?;
         add(alloc, &mut shelf, "s.txt", scripts.0)?;
         add(alloc, &mut shelf, "t.txt", scripts.1)?;
-        let line = format!(in alloc; "run {words}")?;
         let text = format!(in alloc; "compsoc report 1\nbudget {report}end\n")?;
-        let row = (line.as_str(), 0, 0, 0, text.as_str());
-        expect(&rt, alloc, shelf.as_slice(), row)?;
+        // The history of one session is the same where it is a thread.
+        let ways = if words.split_whitespace().count() == 3 {
+            ["", " --workers 1"].as_slice()
+        } else {
+            ["", " --workers 0"].as_slice()
+        };
+        for workers in ways {
+            let line = format!(in alloc; "run {words}{workers}")?;
+            let row = (line.as_str(), 0, 0, 0, text.as_str());
+            expect(&rt, alloc, shelf.as_slice(), row)?;
+        }
     }
     Ok(())
+}
+
+#[test]
+fn two_sessions_as_threads(rt: HostRuntime) -> Result<(), Fail> {
+    let alloc = rt.alloc();
+    let mut shelf = shelf_of_tiles(alloc)?;
+    add(alloc, &mut shelf, "s.txt", "load pipe.toml at 0\n")?;
+    add(
+        alloc,
+        &mut shelf,
+        "t.txt",
+        "load beside.toml at 8\nstop 1 at 224\n",
+    )?;
+    let head = "compsoc report 1\nbudget 256\n";
+    let pipe = "command 1 1 load pipe.toml at 0: granted 1.1 at 0\n";
+    let beside = "command 2 1 load beside.toml at 8: granted 2.1 at 8\n";
+    let stop = "command 2 2 stop 1 at 224: stopped 2.1 at 224\n";
+    let first = format!(in alloc; "app 1.1 pipe.toml from 0 to 256\n{PIPE_LINES}")?;
+    let second =
+        "app 2.1 beside.toml from 8 to 224\n205 0 word 00000007\npart 0 halt 00000000 at 206 cut 0\n";
+    // The report is that of the history that it prints: the three orders of the two scripts' commands.
+    let before = format!(in alloc; "{head}{pipe}{beside}{stop}{first}{second}end\n")?;
+    let between = format!(in alloc; "{head}{beside}{pipe}{stop}{second}{first}end\n")?;
+    let after = format!(in alloc; "{head}{beside}{stop}{pipe}{second}{first}end\n")?;
+    let texts = (before.as_str(), between.as_str(), after.as_str());
+    let line = "run two.toml 256 s.txt t.txt --workers 1";
+    expect_one_of(&rt, alloc, shelf.as_slice(), line, texts)
 }
 
 #[test]

@@ -240,6 +240,13 @@ impl Tile {
         self.advance(world, schedule, quiet, inputs, outputs);
     }
 
+    /// Answers the tile's number, counted from 0.
+    pub fn number(&self) -> u8
+        ensures { result ≡ self.now.number }
+    {
+        self.number
+    }
+
     /// Answers the tile's next slot.
     pub fn at(&self) -> u64
         ensures { result ≡ self.now.at }

@@ -99,6 +99,12 @@ pub grants_of_loads : (setup : Setup) → IsSound setup → (history : List Entr
     → AreOfLoads setup.loads (grants_of setup history)
 grants_of_loads setup sound history legal = (standing (held setup history) LAST_CYCLE sound.cycles legal).of_loads
 
+-- no more commands of a session stand in a legal history than its script has
+pub legal_counts : (setup : Setup) → IsSound setup → (history : List Entry) → IsLegal setup history → (session : ℕ)
+    → count_of history session ≤ length (commands_of setup session)
+legal_counts setup sound history legal session =
+    (standing (held setup history) LAST_CYCLE sound.cycles legal).within session
+
 pub grants_none : (setup : Setup) → grants_of setup [] ≡ []
 unfolding grants_of
 grants_none setup = refl

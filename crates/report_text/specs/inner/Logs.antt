@@ -1,5 +1,5 @@
 -- What the tiles hold of the parts of an application, and when that is what it has alone.
-use Rattle.std.specs.Prelude.{◌≡◌, ℕ, ◌≤◌, ◌*◌, List, [], ◌++◌, codes, length, map, slice_get, Option, Some}
+use Rattle.std.specs.Prelude.{◌≡◌, ℕ, ◌≤◌, ◌*◌, List, [], ◌∷◌, ◌++◌, codes, length, map, slice_get, Option, Some}
 use Rattle.std.specs.List.{flat_map, filter_map}
 use Rattle.std.specs.Option.{option_map_or, option_and_then}
 use Rattle.soc_base.specs.declared.label.Label.{Label}
@@ -10,6 +10,7 @@ use Rattle.bundle_model.specs.declared.bundle.Bundle.{Bundle}
 use Rattle.bundle_model.specs.declared.world.World.{World}
 use Rattle.bundle_model.specs.declared.world.Grant.{Grant}
 use Rattle.bundle_model.specs.Grants.{bundle_at}
+use Rattle.alone_model.specs.declared.trace.PartTrace.{PartTrace}
 use Rattle.alone_model.specs.App.{alone_at}
 use Rattle.alone_model.specs.Trace.{kept_rows, part_trace}
 use Rattle.tile_core.specs.declared.station.Station.{Station}
@@ -38,6 +39,11 @@ line_on stations label part =
     option_map_or (λ log. part_text (record { tile = part.tile; end = log.end; cut = log.cut }))
     (log_on stations label part) []
 
+-- the trace of a part with that log
+abbrev pub traces_on : List Station → Label → Part → List PartTrace
+traces_on stations label part =
+    option_map_or (λ log. record { tile = part.tile; end = log.end; cut = log.cut } ∷ []) (log_on stations label part) []
+
 -- the grants that some entries of a history give
 unfoldable pub grants_in : Setup → List Entry → List Entry → List Grant
 grants_in setup history entries = filter_map (λ entry. grant_by setup history entry.reply) entries
@@ -58,13 +64,14 @@ parts_text setup stations grant parts rows =
 abbrev pub ArePartsOf : World → Grant → List Part → Type 0
 ArePartsOf world grant parts = (bundle : Bundle) → bundle_at world grant.bundle ≡ Some bundle → parts ≡ bundle.parts
 
--- the tiles hold of a grant's application what it has alone, and there is room for its rows
+-- the tiles hold of a grant's application what it has alone, there is room for its rows, and it has a part at
+-- most on each tile
 pub record HoldsAlone (setup : Setup) (stations : List Station) (grant : Grant) : Type 0 where
   pub bundle : Bundle
   pub is_bundle : bundle_at setup.world grant.bundle ≡ Some bundle
   pub fits : length (flat_map (rows_on stations grant.label) bundle.parts) ≤ most_rows setup.world
+  pub few : length bundle.parts ≤ 32
   pub rows : flat_map (rows_on stations grant.label) bundle.parts
       ≡ kept_rows (alone_at setup.world.platform bundle grant.start (stop_slot setup.budget grant))
-  pub lines : flat_map (line_on stations grant.label) bundle.parts
-      ≡ flat_map part_text (map part_trace
-      (alone_at setup.world.platform bundle grant.start (stop_slot setup.budget grant)).parts)
+  pub parts : flat_map (traces_on stations grant.label) bundle.parts
+      ≡ map part_trace (alone_at setup.world.platform bundle grant.start (stop_slot setup.budget grant)).parts

@@ -16,8 +16,8 @@ finish-stations-requires c =
     c.commit_all.ensures.setup ∙ ap (λ (state : ManagerState). state.setup) c.in_ok-manager.ensures.made in
     can_finish c.args.setup.now c.commit_all.new.manager c.copy_since.new.into c.in_ok-rig.rig c.requires (record {
       same = same;
-      rounds = c.commit_all.ensures.rounds;
-      apart = c.commit_all.ensures.apart;
+      legal = c.commit_all.ensures.rounds.legal;
+      complete = c.commit_all.ensures.rounds.complete;
       grants = c.copy_since.ensures.grants;
       horizon = c.copy_since.ensures.horizon;
     }) (rw (← c.as_slice.ensures) c.in_ok-rig.ensures)

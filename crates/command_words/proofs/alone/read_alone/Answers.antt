@@ -1,0 +1,25 @@
+use Rattle.std.proofs.Common.{◌≡◌, Some, None, IfOk, subst}
+use Rattle.command_words.specs.Commands.{alone_app}
+use Rattle.command_words.specs.Request.{alone_in}
+use Rattle.command_words.proofs.Asked.{asked_of_faulty, asked_of_faultless}
+use Rattle.command_words.proofs.Simple.{free_as, alone_is_free}
+use Rattle.command_words.proofs.alone.read_alone.Goals as goal
+
+pub matched-requires : goal.matched-requires
+matched-requires c = free_as _ alone_app c.in-Ok.ensures alone_is_free
+
+pub returns-in-Ok-matched-clause-usage : goal.returns-in-Ok-matched-clause-usage
+returns-in-Ok-matched-clause-usage c = λ e.
+    subst (λ asked. asked ≡ None)
+    (asked_of_faultless _ alone_app alone_in _ _ c.in-Ok.ensures c.in-Ok-matched.ensures.faultless c.in-Ok-matched.ensures.rows)
+    (c.alone_request.ensures.usage e)
+
+pub returns-in-Ok-matched-clause-request : goal.returns-in-Ok-matched-clause-request
+returns-in-Ok-matched-clause-request c =
+    subst (λ asked. IfOk c.alone_request.result (λ request. asked ≡ Some request))
+    (asked_of_faultless _ alone_app alone_in _ _ c.in-Ok.ensures c.in-Ok-matched.ensures.faultless c.in-Ok-matched.ensures.rows)
+    c.alone_request.ensures.request
+
+pub returns-in-Err-clause-usage : goal.returns-in-Err-clause-usage
+returns-in-Err-clause-usage c = λ e.
+    asked_of_faulty _ alone_app alone_in _ c.in-Ok.ensures (c.in-Err.ensures.usage (cc e))

@@ -1,0 +1,3 @@
+-- Definitions that only clauses of private functions and of tests cite.
+pub mod Jobs
+pub mod Small

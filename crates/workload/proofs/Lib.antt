@@ -1,0 +1,5 @@
+mod DrawLemmas
+mod Depths
+mod Inserting
+mod LoadLemmas
+mod Ranges

@@ -1,0 +1,4 @@
+pub mod Draws
+pub mod Documents
+pub mod Texts
+pub mod inner

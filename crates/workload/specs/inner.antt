@@ -1,0 +1,3 @@
+-- Words of clauses between the functions of this crate.
+pub mod Inserted
+pub mod Loads
