@@ -66,7 +66,7 @@ fn expect(rt: &impl Abort, alloc: Global, line: &str, want: &str) -> Result<(), 
 }
 
 // Lines of `run`, and what they ask for.
-const RUNS: [(&str, &str); 52] = [
+const RUNS: [(&str, &str); 54] = [
     ("run|p|5|a", "run|p|5|0|false|a"),
     ("run|p|5|a|b|a", "run|p|5|0|false|a|b|a"),
     ("run||5|", "run||5|0|false|"),
