@@ -17,12 +17,12 @@ several_rule id most = record (new_rule id) {
   range = Some (record { start_inclusive = 1; end_inclusive = most });
 }
 
--- `--workers N`, 0 where it isn't given
+-- `--workers N`, 2 where it isn't given
 abbrev pub workers_rule : Rule
 workers_rule = record (new_rule (codes "workers")) {
   long = Some (codes "workers");
   action = Some Set;
-  defaults = codes "0" ∷ [];
+  defaults = codes "2" ∷ [];
 }
 
 -- `--state`

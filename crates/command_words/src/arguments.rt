@@ -35,7 +35,7 @@ pub(crate) fn workers<'a>(alloc: Global) -> Arg<'a>
     Arg::new(alloc, "workers")
         .long("workers")
         .action(ArgAction::Set)
-        .default_value("0")
+        .default_value("2")
 }
 
 // `--state`.

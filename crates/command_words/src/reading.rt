@@ -14,7 +14,7 @@ use std::alloc::Global;
 
 /// Reads what words ask for, of which the first is the command and the others are its own:
 ///
-/// - `run PLATFORM BUDGET SCRIPT.. [--workers N] [--state]`, with 1 to 16 scripts and 0 or 1 workers,
+/// - `run PLATFORM BUDGET SCRIPT.. [--workers N] [--state]`, with 1 to 16 scripts and 0 to 32 workers,
 /// - `alone PLATFORM BUNDLE START BUDGET`,
 /// - `check PLATFORM BUNDLE..`, with 1 to 64 bundles,
 /// - `generate NUMBER`, the number below 2^32.

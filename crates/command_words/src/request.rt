@@ -6,11 +6,11 @@ use thiserror::Error;
 /// The most bundle files that `check` takes.
 pub const MOST_CHECKED: usize = 64;
 
-/// The most workers that `run` takes: with 1, each session is a thread.
-pub const MOST_WORKERS: u64 = 1;
+/// The most workers that `run` takes.
+pub const MOST_WORKERS: u64 = 32;
 
 /// The words of the command `run`: a platform file, a cycle from 0 to 1,000,000,000,000, 1 to 16 scripts, a
-/// number of workers, and whether the state is printed.
+/// number of workers from 0 to 32, and whether the state is printed.
 #[derive(Debug, Drop)]
 pub struct RunWords {
     /// The name of the platform file.
@@ -19,7 +19,7 @@ pub struct RunWords {
     pub budget: u64,
     /// The names of the scripts, one for each session.
     pub scripts: Items<Text>,
-    /// 0 where all is done on one thread, 1 where each session is a thread of its own.
+    /// How many threads take the tiles on, beside one for each session; 0 where all is done on one thread.
     pub workers: u8,
     /// Whether the report has the state of the tiles at the end of the run.
     pub state: bool,

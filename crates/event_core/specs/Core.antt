@@ -69,11 +69,12 @@ abbrev pub is_enabled : Engaged → Event → Bool
 is_enabled e (Command session) = is_some (next_entry e.setup e.core.history session)
 is_enabled e (Slot tile) = is_some (slice_get e.core.tiles tile) && not (is_some (why_not e (Slot tile)))
 
--- the core after events, one after the other, and how many of them were enabled
+-- the core after events, one after the other
 abbrev pub after_events : Engaged → List Event → Engaged
 after_events e [] = e
 after_events e (event ∷ rest) = after_events (after_event e event) rest
 
+-- how many of them were enabled
 abbrev pub enabled_count : Engaged → List Event → ℕ
 enabled_count e [] = 0
 enabled_count e (event ∷ rest) = (if is_enabled e event then 1 else 0) + enabled_count (after_event e event) rest

@@ -41,6 +41,7 @@ LineFollows setup core number line = (place : ℕ) (flit : WordAndCredits) → s
     → LinkFollows setup.world (grants_of setup core.history)
     (slot_of (hardware_of setup) core line.link.to + place) number flit
 
+-- whatever events come, each link holds such flits
 abbrev pub CoreLinksFollow : Setup → Type 0
 CoreLinksFollow setup = (events : List Happening) (number : ℕ) (line : Line WordAndCredits)
     → let core = core_of setup events in

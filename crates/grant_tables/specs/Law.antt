@@ -79,16 +79,18 @@ pub record DeliveriesAre (world : World) (grants : List Grant) (now tile : ℕ) 
       → (a : Arrival world grants now (slot % world.platform.table_slots) tile)
       × (arriving world grants now (slot % world.platform.table_slots) tile inputs a ≡ delivery)
 
--- what is looked up in sound tables is what the channels of the standing grants claim
+-- the port that injects, as sound tables tell it, is that of the channel of a standing grant which claims it
 abbrev pub InjectsAreRead : Type 0
 InjectsAreRead = (world : World) (grants : List Grant) (now tile : ℕ) (rows : List Row) (slot : ℕ)
     → AreSound world grants now tile rows → InjectsAre world grants now tile rows slot
 
+-- likewise what each output carries in the slot after
 abbrev pub OutputsAreRead : Type 0
 OutputsAreRead = (world : World) (grants : List Grant) (now tile : ℕ) (rows : List Row) (slot : ℕ)
     (inputs : List WordAndCredits) (injected : WordAndCredits) → AreSound world grants now tile rows
     → OutputsAre world grants now tile rows slot inputs injected
 
+-- and likewise what is delivered
 abbrev pub DeliveriesAreRead : Type 0
 DeliveriesAreRead = (world : World) (grants : List Grant) (now tile : ℕ) (rows : List Row) (slot : ℕ)
     (inputs : List WordAndCredits) (injected : WordAndCredits) → AreSound world grants now tile rows

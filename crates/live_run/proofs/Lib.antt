@@ -1,2 +1,6 @@
+mod Coming
+mod Ending
+mod Hands
+mod Linking
 mod Small
 mod UsedUp

@@ -7,6 +7,7 @@ ghost use Rattle.soc_base.specs.declared.limits.TheConstants.{MOST_SCRIPTS};
 ghost use Rattle.vep_manager.specs.History.{IsSession, is_used_up};
 
 use crate::service::Service;
+use bundle_model::Schedule;
 use shared_manager::{Pass, SharedManager};
 use std::sync::Wait;
 use tile_workers::{Gate, Who};
@@ -64,14 +65,26 @@ fn commit_session<'s, R: Wait, G: Gate>(
 }
 
 impl<'s> Service<Pass<'s>> for SharedManager<'s> {
+    ghost use Rattle.std.proofs.Props.{props};
+
     ghost rests = { λ m p. RestsAt m p };
+
+    ghost rests_prop = { λ m p. Prim.hlevel props };
 
     ghost share = { λ p. p.share };
 
-    ghost has = { λ m session. IsSession m.base session };
+    ghost setup = { λ m. m.base };
+
+    ghost seen = { λ p. p.seen };
+
+    ghost entered = { λ p. p.entered };
 
     fn serve<R: Wait, G: Gate>(&self, rt: &R, gate: &G, pass: &mut Pass<'s>, session: u8) {
         commit_session(self, rt, gate, pass, session);
+    }
+
+    fn refresh<R: Wait>(&self, rt: &R, pass: &mut Pass<'s>, into: &mut Schedule) {
+        self.refresh(rt, pass, into);
     }
 
     fn split(&self, pass: &mut Pass<'s>) -> Pass<'s> {
@@ -97,6 +110,7 @@ pub fn commit_all<'s, R: Wait, G: Gate>(
     requires few { sessions ≤ MOST_SCRIPTS }
     ensures used_up { (session : ℕ) → IsSession shared.now.base session
         → IsTrue (is_used_up shared.now.base pass.new.seen session) }
+    ensures begins { IsPrefix pass.old.seen pass.new.seen }
     ensures share { pass.new.share ≡ pass.old.share }
     ensures rests { RestsAt shared.now pass.new }
 {

@@ -2,7 +2,13 @@
 
 /// The setup of a run.
 mod fixture;
+/// Gates that hold workers up, or see how far they come.
+mod gates;
 /// A gate that holds a session back.
 mod holding;
 /// The runs.
 mod runs;
+/// Waiting for another thread, but not for ever.
+mod waiting;
+/// Runs whose workers are held up or watched.
+mod workers;

@@ -2,6 +2,7 @@
 
 ghost use Rattle.std.specs.Prelude.{◌≡◌, ◌≤◌, ◌<◌, ◌+◌, ℕ};
 ghost use Rattle.std.specs.Thread.{IsSync};
+ghost use Rattle.vep_manager.specs.History.{IsSession};
 ghost use Rattle.soc_base.specs.declared.limits.TheConstants.{MOST_SCRIPTS};
 
 use crate::job::{Job, finish, start};
@@ -27,7 +28,7 @@ pub struct Session<'a, S, P, R, G> {
 }
 
 impl<'a, P, S: Service<P>, R: Wait, G: Gate> Job<P> for Session<'a, S, P, R, G> {
-    ghost can = { λ j. S.rests j.service.now j.pass × S.has j.service.now j.session };
+    ghost can = { λ j. S.rests j.service.now j.pass × IsSession (S.setup j.service.now) j.session };
 
     ghost owes = { λ j p. S.rests j.service.now p × (S.share p ≡ S.share j.pass) };
 
@@ -57,7 +58,7 @@ pub fn serve_from<P: Send + Drop, S: Service<P> + Sync, R: Threads + Wait + Sync
 ) -> P
     requires rests { S.rests service.now pass }
     requires share { last + 1 < S.share pass + session }
-    requires has { (one : ℕ) → session ≤ one → one ≤ last → S.has service.now one }
+    requires has { (one : ℕ) → session ≤ one → one ≤ last → IsSession (S.setup service.now) one }
     requires few { last ≤ MOST_SCRIPTS }
     ensures rests { S.rests service.now result }
     ensures share { S.share result ≡ S.share pass }
@@ -74,7 +75,7 @@ pub fn serve_from<P: Send + Drop, S: Service<P> + Sync, R: Threads + Wait + Sync
             requires { IsSync R.row × IsSync G.row
                 × S.rests service.now pass × S.rests service.now part × (S.share part ≡ 1)
                 × (last + 1 < S.share pass + session + 1) × (last ≤ MOST_SCRIPTS) × (session ≤ last)
-                × ((one : ℕ) → session ≤ one → one ≤ last → S.has service.now one) }
+                × ((one : ℕ) → session ≤ one → one ≤ last → IsSession (S.setup service.now) one) }
             ensures { S.rests service.entry.now result × (S.share result ≡ S.share pass + 1) }
         {
             let work = Session {

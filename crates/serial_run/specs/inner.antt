@@ -1,4 +1,6 @@
 -- Definitions that only clauses of private functions cite.
-pub mod Slots
+pub mod Carrying
+pub mod Going
+pub mod Hops
 pub mod Rounds
 pub mod Sample

@@ -1,21 +1,23 @@
 //! A whole run on one thread: every command is committed, and then every tile goes on to the end.
 //!
-//! `specs/Run` says what a rig needs and what a run ends with.
+//! `specs/Run` says what stations need to go on and what a run ends with.
 #![tactic(auto)]
 
+/// Flits from one station to another on one thread.
+mod carrying;
 /// What a run ends with.
 mod end;
-/// The tiles of a platform and its links, slot by slot.
-mod rig;
+/// All stations of a platform, brought to one slot on one thread.
+mod finishing;
+/// Where the two ends of each link are.
+mod hops;
 /// A run of all sessions.
 mod serial;
-/// The links of a platform between two slots.
-mod wires;
 
 /// Runs followed by hand.
 #[cfg(test)]
 mod tests;
 
 pub use end::RunEnd;
-pub use rig::Rig;
+pub use finishing::finish;
 pub use serial::serial_all;

@@ -5,14 +5,15 @@ ghost use Rattle.bundle_model.specs.Grants.{IsApart};
 ghost use Rattle.vep_manager.specs.Setup.{IsSound};
 ghost use Rattle.vep_manager.specs.History.{IsSession, grants_of};
 ghost use Rattle.vep_manager.specs.Legal.{IsRoundRobin};
-ghost use Rattle.serial_run.specs.Run.{EndsInStep};
+ghost use Rattle.serial_run.specs.Run.{EndsInStep, RingsEndInStep};
 ghost use Rattle.serial_run.specs.inner.Rounds.{TakesTurn, EndsRound};
 
 use crate::end::RunEnd;
-use crate::rig::Rig;
+use crate::finishing::finish;
 use bundle_model::Schedule;
 use soc_base::{Items, MOST_COMMANDS, MOST_SCRIPTS, NoMemory};
 use std::alloc::Global;
+use tile_core::build;
 use vep_manager::{Manager, Setup};
 
 // Commits the next command of a session, if it has one, and answers whether it has.
@@ -40,8 +41,8 @@ fn round(manager: &mut Manager<'_>, sessions: u8) -> bool
     busy
 }
 
-// Commits all commands, in rounds.
-fn commit_all(manager: &mut Manager<'_>, sessions: u8)
+/// Commits all commands, in rounds.
+pub(crate) fn commit_all(manager: &mut Manager<'_>, sessions: u8)
     requires sound { IsSound manager.old.setup }
     requires sessions { sessions ≡ length manager.old.setup.scripts }
     requires empty { manager.old.history ≡ [] }
@@ -64,13 +65,15 @@ pub fn serial_all(alloc: Global, setup: &Setup) -> Result<RunEnd, NoMemory>
     requires { IsSound setup.now }
     ensures history { IfOk result (λ end. IsRoundRobin setup.now end.history) }
     ensures tiles { IfOk result (EndsInStep setup.now) }
+    ensures rings { IfOk result (RingsEndInStep setup.now) }
 {
     let mut manager = Manager::new(alloc, setup)?;
     let mut schedule = Schedule::new(alloc, setup.loads.len() as u16)?;
-    let rig = Rig::new(alloc, &setup.world, setup.loads.as_slice())?;
+    let mut stations = build(alloc, &setup.world, setup.loads.as_slice())?;
     commit_all(&mut manager, setup.scripts.len() as u8);
     manager.copy_since(&mut schedule);
-    let stations = rig.finish(&setup.world, &schedule, setup.budget);
+    let world = &setup.world;
+    finish(stations.as_mut_slice(), world, &schedule, setup.budget);
     Ok(RunEnd {
         history: Items::from_vec(manager.into_history()),
         stations: Items::from_vec(stations),

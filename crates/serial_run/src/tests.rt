@@ -7,18 +7,21 @@ ghost use Rattle.bundle_model.specs.World.{IsSoundCatalog};
 ghost use Rattle.bundle_model.specs.WellFormed.{IsWellFormed};
 ghost use Rattle.script_file.specs.declared.command.Command.{Command};
 ghost use Rattle.vep_manager.specs.Setup.{IsSound};
+ghost use Rattle.serial_run.specs.Run.{CanFinish};
 ghost use Rattle.serial_run.specs.inner.Sample.{sample_file, sample_scripts};
 
-use crate::{RunEnd, serial_all};
-use bundle_model::{Bundle, LoadName, Named, RawBundle, RawPart, Resource, World, check};
-use platform_model::Platform;
+use crate::serial::commit_all;
+use crate::{RunEnd, finish, serial_all};
+use bundle_model::{Bundle, LoadName, Named, RawBundle, RawPart, Resource, Schedule, World, check};
+use platform_model::{Platform, RawLink, RawPlatform};
 use script_file::{Command, Script};
 use soc_base::{Items, Label, Text};
 use std::alloc::Global;
 use std::process::Abort;
 use std::test::Fail;
+use tile_core::{Station, build};
 use trace_log::{Kind, PartEnd, TraceRow};
-use vep_manager::{Entry, Reply, Setup};
+use vep_manager::{Entry, Manager, Reply, Setup};
 
 // A bundle of one part in partition slot 0 that traces 7 and ends: its instructions take 1, 1, 4 and
 // 1 cycles. On the plain platform the slot is served from cycle 72 on, and again 256 cycles later.
@@ -50,12 +53,11 @@ fn bundle(alloc: Global, platform: &Platform) -> Result<Bundle, Fail>
     Ok(check(alloc, &raw, platform)?)
 }
 
-// The platform and one bundle file.
-fn world(alloc: Global) -> Result<World, Fail>
+// A platform and one bundle file.
+fn world(alloc: Global, platform: Platform) -> Result<World, Fail>
     ensures sound { IfOk result IsSoundCatalog }
     ensures one { IfOk result (λ world. (judged : Result Bundle BRule) × (world.catalog ≡ sample_file judged ∷ [])) }
 {
-    let platform = Platform::plain(alloc)?;
     let named = Named {
         name: Text::from_str(alloc, "app")?,
         judged: Ok(bundle(alloc, &platform)?),
@@ -107,10 +109,10 @@ const THIRD: Label = Label {
 };
 
 // The sessions over 42 slots, which are 336 cycles.
-fn setup(alloc: Global) -> Result<Setup, Fail>
+fn setup(alloc: Global, platform: Platform) -> Result<Setup, Fail>
     ensures { IfOk result IsSound }
 {
-    let world = world(alloc)?;
+    let world = world(alloc, platform)?;
     let scripts = scripts(alloc)?;
     let first = LoadName {
         label: FIRST,
@@ -137,9 +139,8 @@ fn entry(session: u8, index: u16, reply: Reply) -> Entry {
     }
 }
 
-// Checks the log of a load's part on the only tile.
+// Checks the log of a load's part on tile 0, which is at the end of the run.
 fn check_log<A: Abort>(rt: &A, end: &RunEnd, label: Label, rows: &[TraceRow], ended: PartEnd) {
-    assert_eq!(rt; end.stations.len(), 1);
     let Some(station) = end.stations.get(0) else {
         panic!(rt; "no tile");
     };
@@ -155,7 +156,7 @@ fn check_log<A: Abort>(rt: &A, end: &RunEnd, label: Label, rows: &[TraceRow], en
 #[test]
 fn commits_in_rounds_and_then_runs(rt: HostRuntime) -> Result<(), Fail> {
     let alloc = rt.alloc();
-    let setup = setup(alloc)?;
+    let setup = setup(alloc, Platform::plain(alloc)?)?;
     let end = serial_all(alloc, &setup)?;
     let taken = Reply::Taken {
         resource: Resource::Partition { tile: 0, slot: 0 },
@@ -191,5 +192,106 @@ fn commits_in_rounds_and_then_runs(rt: HostRuntime) -> Result<(), Fail> {
         PartEnd::Halt { code: 0, cycle: 78 },
     );
     check_log(&rt, &end, THIRD, &[], PartEnd::Live);
+    Ok(())
+}
+
+fn link(from: i64, out: i64, to: i64, input: i64) -> RawLink {
+    RawLink {
+        from,
+        out,
+        to,
+        input,
+    }
+}
+
+// The plain platform with three tiles: two are joined both ways, and the third is fed by both.
+fn joined(alloc: Global) -> Result<Platform, Fail> {
+    let links = vec![in alloc;
+        link(0, 3, 1, 5),
+        link(1, 0, 0, 6),
+        link(1, 2, 2, 0),
+        link(0, 1, 2, 4),
+    ]?;
+    let raw = RawPlatform {
+        tiles: 3,
+        links: Items::from_vec(links),
+        ..RawPlatform::plain(alloc)
+    };
+    Ok(Platform::check(alloc, &raw)?)
+}
+
+// Tries a slot of a tile, if there is one of this number.
+fn try_tile(stations: &mut [Station], world: &World, schedule: &Schedule, tile: usize)
+    requires { CanFinish world.now schedule.now schedule.now.horizon stations.old }
+    ensures { CanFinish world.now schedule.now schedule.now.horizon stations.new }
+{
+    if tile < stations.len() {
+        let station = &mut stations[tile];
+        station.try_slot(world, schedule);
+    }
+}
+
+// The same of several tiles, one after the other.
+fn try_tiles(stations: &mut [Station], world: &World, schedule: &Schedule, tiles: &[usize])
+    requires { CanFinish world.now schedule.now schedule.now.horizon stations.old }
+    ensures { CanFinish world.now schedule.now schedule.now.horizon stations.new }
+{
+    for tile in tiles {
+        try_tile(stations, world, schedule, *tile);
+    }
+}
+
+// The slots of three tiles.
+fn slots(stations: &[Station]) -> [u64; 3] {
+    let mut slots = [0; 3];
+    for (slot, station) in slots.iter_mut().zip(stations.iter()) {
+        *slot = station.tile.at();
+    }
+    slots
+}
+
+// Tries slots of tiles after the commands of a setup, checks where the tiles then are, and finishes.
+fn finish_after<A: Abort>(
+    rt: &A,
+    alloc: Global,
+    setup: &Setup,
+    tiles: &[usize],
+    then: [u64; 3],
+) -> Result<RunEnd, Fail>
+    requires { IsSound setup.now }
+{
+    let mut manager = Manager::new(alloc, setup)?;
+    let mut schedule = Schedule::new(alloc, setup.loads.len() as u16)?;
+    let mut stations = build(alloc, &setup.world, setup.loads.as_slice())?;
+    commit_all(&mut manager, setup.scripts.len() as u8);
+    manager.copy_since(&mut schedule);
+    let all = stations.as_mut_slice();
+    try_tiles(all, &setup.world, &schedule, tiles);
+    assert_eq!(rt; slots(all), then);
+    finish(all, &setup.world, &schedule, schedule.horizon);
+    Ok(RunEnd {
+        history: Items::from_vec(manager.into_history()),
+        stations: Items::from_vec(stations),
+    })
+}
+
+#[test]
+fn finishes_from_different_slots(rt: HostRuntime) -> Result<(), Fail> {
+    let alloc = rt.alloc();
+    let setup = setup(alloc, joined(alloc)?)?;
+    let whole = serial_all(alloc, &setup)?;
+    // Tile 0 does slot 0 and lacks a flit of tile 1, which then does slots 0 and 1; tile 2 waits for tile 0.
+    let end = finish_after(&rt, alloc, &setup, &[0, 0, 1, 1, 2, 2, 2], [1, 2, 2])?;
+    for end in [&whole, &end] {
+        assert_eq!(rt; slots(end.stations.as_slice()), [42, 42, 42]);
+        let row = TraceRow {
+            cycle: 77,
+            value: 7,
+            tile: 0,
+            kind: Kind::Word,
+        };
+        let halt = PartEnd::Halt { code: 0, cycle: 78 };
+        check_log(&rt, end, FIRST, &[row], halt);
+    }
     Ok(())
 }

@@ -1,5 +1,5 @@
 -- How a request ends, from what its files gave and how its text was written.
-use Rattle.std.proofs.Common.{◌≡◌, ℕ, Bool, List, [], Option, refl, sym, subst}
+use Rattle.std.proofs.Common.{◌≡◌, ℕ, zero, suc, ◌<◌, Bool, List, [], Option, refl, sym, subst, arith}
 use Rattle.soc_io.specs.Reading.{Held}
 use Rattle.vep_manager.specs.declared.setup.Setup.{Setup}
 use Rattle.vep_manager.specs.declared.reply.Entry.{Entry}
@@ -18,7 +18,8 @@ use Rattle.soc_top.specs.Order.{Order, AreRead, Cause}
 use Rattle.soc_top.specs.Answers.{Texts, Ends, Concludes}
 use Rattle.soc_top.specs.Alone.{bundle_order, alone_order, alone_inputs, IsAloneText, AloneTexts}
 use Rattle.report_text.specs.Report.{IsReport}
-use Rattle.soc_top.specs.Run.{run_order, inputs_of, GivesSetup, IsReportOf, RunTexts}
+use Rattle.vep_manager.specs.Legal.{IsLegal, IsComplete}
+use Rattle.soc_top.specs.Run.{run_order, inputs_of, GivesSetup, IsHistoryBy, IsReportOf, RunTexts}
 use Rattle.soc_top.specs.Check.{checked_order, check_order, check_inputs, verdicts_text, CheckTexts}
 use Rattle.soc_top.proofs.Exchanges.{exchange_of}
 use Rattle.soc_top.proofs.Turns.{run_memory}
@@ -65,6 +66,12 @@ reported Kept setup state history old new before now Done kept (text, is, writte
 reported Kept setup state history old new before now Unwritten kept (text, is, front, rose) =
     (text, (history, kept, is), front, rose)
 reported Kept setup state history old new before now (Refused fault) kept refused = refused
+
+-- by threads any legal history of all commands may come, whatever their number
+pub by_threads : (workers : ℕ) (setup : Setup) (history : List Entry) → 0 < workers → IsLegal setup history
+    → IsComplete setup history → IsHistoryBy workers setup history
+by_threads zero setup history some legal complete = absurd (omega (arith, some))
+by_threads (suc workers) setup history some legal complete = (legal, complete)
 
 pub check_ended : (told : Option Held) (read read_now : ℕ) (old new : Option (List ℕ)) (before now : ℕ)
     (request : CheckWords) (platform : Platform) (catalog : List Named) (ending : Ending)

@@ -83,7 +83,7 @@ RunTexts Kept request inputs text =
     (setup : Setup) × (inputs ≡ inputs_of setup) × EndsAt request setup × IsReportOf Kept setup request.state text
 
 -- which histories a run may have. On one thread alone (no workers) it is the legal one of all commands in
--- rounds; where each session is a thread it is any legal one of all commands.
+-- rounds; where each session is a thread it is any legal one of all commands, whatever the number of workers.
 abbrev pub IsHistoryBy : ℕ → Setup → List Entry → Type 0
 IsHistoryBy zero setup history = IsRoundRobin setup history
 IsHistoryBy (suc workers) setup history = IsLegal setup history × IsComplete setup history

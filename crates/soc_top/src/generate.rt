@@ -65,8 +65,8 @@ fn workload_words(alloc: Global, texts: &Texts) -> Result<RunWords, NoMemory>
     })
 }
 
-// Reads the texts of a workload as the files of a run are read. They break no rule, and memory never fails a
-// read, so that it is refused for want of memory alone.
+// Reads the texts of a workload as the files of a run are read. Memory never fails a read, and no draw makes a
+// text that breaks a rule: a fault of ours would end as want of memory here. That none does isn't proved.
 fn read_texts(alloc: Global, texts: &Texts) -> Result<Setup, NoMemory>
     requires { IsRunInForm (workload_words texts.now) }
     ensures read { IfOk result (GivesSetup (Some (files_of texts.now)) (workload_words texts.now)) }

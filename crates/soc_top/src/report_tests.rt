@@ -245,11 +245,11 @@ fn reports(rt: HostRuntime) -> Result<(), Fail> {
         add(alloc, &mut shelf, "s.txt", scripts.0)?;
         add(alloc, &mut shelf, "t.txt", scripts.1)?;
         let text = format!(in alloc; "compsoc report 1\nbudget {report}end\n")?;
-        // The history of one session is the same where it is a thread.
+        // The history of one session is the same by threads.
         let ways = if words.split_whitespace().count() == 2 {
-            ["", " --workers 1"].as_slice()
+            ["", " --workers 0", " --workers 1", " --workers 8"].as_slice()
         } else {
-            ["", " --workers 0"].as_slice()
+            [" --workers 0"].as_slice()
         };
         for workers in ways {
             let line = format!(in alloc; "run one.toml {words}{workers}")?;
@@ -295,7 +295,9 @@ fn sixteen(alloc: Global, files: &mut Vec<File>, sessions: bool) -> Result<(Stri
             "app {label} {name} from 0 to 2048\n{stored} 0 word 00000007\npart 0 halt 00000000 at {halted} cut 0\n"
         )?.as_str())?;
     }
-    if !sessions {
+    if sessions {
+        words.push_str(" --workers 0")?;
+    } else {
         add(alloc, files, "s.txt", script.as_str())?;
         words.push_str(" s.txt")?;
     }

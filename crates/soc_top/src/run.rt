@@ -1,6 +1,6 @@
 //! The command `run`.
 
-ghost use Rattle.std.specs.Prelude.{◌≡◌, ◌≤◌};
+ghost use Rattle.std.specs.Prelude.{◌≡◌, ◌<◌, ◌≤◌};
 ghost use Rattle.vep_manager.specs.Setup.{IsSound};
 ghost use Rattle.vep_manager.specs.Legal.{IsLegal, IsRoundRobin};
 ghost use Rattle.serial_run.specs.Run.{EndsInStep};
@@ -8,7 +8,7 @@ ghost use Rattle.report_text.specs.Report.{IsReport};
 ghost use Rattle.report_text.specs.inner.Room.{most_rows};
 ghost use Rattle.command_words.specs.Request.{IsRunInForm};
 ghost use Rattle.soc_top.specs.Exchange.{exchanged};
-ghost use Rattle.soc_top.specs.Run.{run_order, IsHistoryBy, IsReportOf, RunTexts, RunAnswersBy};
+ghost use Rattle.soc_top.specs.Run.{run_order, IsHistoryBy, IsReportOf, RunTexts, RunAnswersBy, RunAnswers};
 ghost use Rattle.soc_top.specs.Answers.{Concludes, Ends};
 
 use crate::ending::{Ending, code, refuse};
@@ -62,27 +62,29 @@ fn serial_report<S: Sink>(alloc: Global, setup: &Setup, state: bool, sink: &mut 
     write(reporter, setup, &end, state, sink)
 }
 
-// Runs a setup with a thread for each session, and writes its report, or the line of a fault at want of memory.
-#[tactic(auto, using(crate::proofs::Concluding::reported))]
+// Runs a setup with a thread for each session and so many for the tiles, and writes its report, or the line of
+// a fault at want of memory.
+#[tactic(auto, using(crate::proofs::Concluding::reported, crate::proofs::Concluding::by_threads))]
 fn live_report<R: Threads + Wait + Sync, S: Sink, G: Gate + Sync>(
     rt: &R,
     alloc: Global,
     setup: &Setup,
-    state: bool,
+    request: &RunWords,
     sink: &mut S,
     gate: &G,
 ) -> Ending
     requires sound { IsSound setup.now }
+    requires threads { 0 < request.now.workers }
     ensures counted { S.faults sink.old ≤ S.faults sink.new }
-    ensures concludes { Concludes (IsReportOf (IsHistoryBy 1) setup.now state) (S.written sink.old) (S.faults sink.old) (S.written sink.new) (S.faults sink.new) result }
+    ensures concludes { Concludes (IsReportOf (IsHistoryBy request.now.workers) setup.now request.now.state) (S.written sink.old) (S.faults sink.old) (S.written sink.new) (S.faults sink.new) result }
 {
     let Ok(reporter) = Reporter::new(alloc, setup) else {
         return refuse(TopFault::NoMemory, sink);
     };
-    let Ok(end) = live(rt, alloc, setup, gate) else {
+    let Ok(end) = live(rt, alloc, setup, request.workers, gate) else {
         return refuse(TopFault::NoMemory, sink);
     };
-    write(reporter, setup, &end, state, sink)
+    write(reporter, setup, &end, request.state, sink)
 }
 
 // How a request ends on this thread alone: its files are read and judged, its setup runs, its report is written.
@@ -101,7 +103,7 @@ fn serial_end<F: Files, S: Sink>(
     }
 }
 
-// The same with a thread for each session.
+// The same with threads for the sessions and the tiles.
 fn live_end<R: Threads + Wait + Sync, F: Files, S: Sink, G: Gate + Sync>(
     rt: &R,
     alloc: Global,
@@ -110,11 +112,12 @@ fn live_end<R: Threads + Wait + Sync, F: Files, S: Sink, G: Gate + Sync>(
     sink: &mut S,
     gate: &G,
 ) -> Ending
-    requires { IsRunInForm request.now }
-    ensures { Ends (exchanged F.holds F.faults S.written S.faults files.old files.new sink.old sink.new) (run_order request.now) (RunTexts (IsHistoryBy 1) request.now) result }
+    requires form { IsRunInForm request.now }
+    requires threads { 0 < request.now.workers }
+    ensures { Ends (exchanged F.holds F.faults S.written S.faults files.old files.new sink.old sink.new) (run_order request.now) (RunTexts (IsHistoryBy request.now.workers) request.now) result }
 {
     match read_setup(alloc, request, files) {
-        Ok(setup) => live_report(rt, alloc, &setup, request.state, sink, gate),
+        Ok(setup) => live_report(rt, alloc, &setup, request, sink, gate),
         Err(fault) => refuse(fault, sink),
     }
 }
@@ -138,7 +141,8 @@ pub fn serial_call<F: Files, S: Sink>(
 }
 
 /// Does a `run` with a thread for each session, which commits its script's commands in whatever order the
-/// threads come to the manager, and comes to the gate after each. Answers as `serial_call` does, if it returns.
+/// threads come to the manager, and beside them as many threads as the request has workers, which take the tiles
+/// on; all come to the gate after each step. Answers as `serial_call` does, if it returns.
 #[tactic(auto, using(crate::proofs::Endings::answers_of))]
 pub fn live_call<R: Threads + Wait + Sync, F: Files, S: Sink, G: Gate + Sync>(
     rt: &R,
@@ -148,8 +152,9 @@ pub fn live_call<R: Threads + Wait + Sync, F: Files, S: Sink, G: Gate + Sync>(
     sink: &mut S,
     gate: &G,
 ) -> u8
-    requires { IsRunInForm request.now }
-    ensures { RunAnswersBy (IsHistoryBy 1) (exchanged F.holds F.faults S.written S.faults files.old files.new sink.old sink.new) request.now result }
+    requires form { IsRunInForm request.now }
+    requires threads { 0 < request.now.workers }
+    ensures { RunAnswers (exchanged F.holds F.faults S.written S.faults files.old files.new sink.old sink.new) request.now result }
 {
     code(&live_end(rt, alloc, request, files, sink, gate))
 }

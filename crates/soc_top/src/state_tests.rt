@@ -56,8 +56,20 @@ fn states_of_tiles(rt: HostRuntime) -> Result<(), Fail> {
             "run one.toml 384 s.txt --state --workers 1",
             one_state.as_str(),
         ),
+        (
+            "run one.toml 384 s.txt --state --workers 8",
+            one_state.as_str(),
+        ),
         ("run one.toml 384 s.txt", one_plain.as_str()),
         ("run two.toml 256 --state p.txt", pipe_state.as_str()),
+        (
+            "run two.toml 256 --state p.txt --workers 0",
+            pipe_state.as_str(),
+        ),
+        (
+            "run two.toml 256 --state p.txt --workers 32",
+            pipe_state.as_str(),
+        ),
         (
             "run one.toml 8 e.txt",
             "compsoc report 1\nbudget 8\nplatform 00000000\nend\n",

@@ -179,11 +179,11 @@ fn applications_beside_each_other(rt: HostRuntime) -> Result<(), Fail> {
         add(alloc, &mut shelf, "s.txt", scripts.0)?;
         add(alloc, &mut shelf, "t.txt", scripts.1)?;
         let text = format!(in alloc; "compsoc report 1\nbudget {report}end\n")?;
-        // The history of one session is the same where it is a thread.
+        // The history of one session is the same by threads.
         let ways = if words.split_whitespace().count() == 3 {
-            ["", " --workers 1"].as_slice()
+            ["", " --workers 0", " --workers 1", " --workers 8"].as_slice()
         } else {
-            ["", " --workers 0"].as_slice()
+            [" --workers 0"].as_slice()
         };
         for workers in ways {
             let line = format!(in alloc; "run {words}{workers}")?;
@@ -217,8 +217,11 @@ fn two_sessions_as_threads(rt: HostRuntime) -> Result<(), Fail> {
     let between = format!(in alloc; "{head}{beside}{pipe}{stop}{second}{first}end\n")?;
     let after = format!(in alloc; "{head}{beside}{stop}{pipe}{second}{first}end\n")?;
     let texts = (before.as_str(), between.as_str(), after.as_str());
-    let line = "run two.toml 256 s.txt t.txt --workers 1";
-    expect_one_of(&rt, alloc, shelf.as_slice(), line, texts)
+    for workers in [1u8, 2, 8] {
+        let line = format!(in alloc; "run two.toml 256 s.txt t.txt --workers {workers}")?;
+        expect_one_of(&rt, alloc, shelf.as_slice(), line.as_str(), texts)?;
+    }
+    Ok(())
 }
 
 #[test]

@@ -20,3 +20,6 @@ pub use Rattle.tile_core.proofs.Viewing.{granted_is, opened_is}
 pub use Rattle.tile_core.proofs.Found.{place_is, grant_place, no_grant_place, log_found, state_found, state_none}
 -- a tile looks in a slot at nothing later
 pub use Rattle.tile_core.proofs.Paced.{tiles_are_paced}
+-- a station that has run by itself can go on, and has run so by any grants that go on from the same
+pub use Rattle.tile_core.proofs.Running.{run_underway, has_run_stays}
+pub use Rattle.tile_core.proofs.OneMore.{all_underway}

@@ -30,3 +30,11 @@ pub mod Ready
 pub mod Able
 pub mod Resting
 mod Pairs
+pub mod Running
+pub mod Finding
+pub mod Stepping
+pub mod Waiting
+pub mod Placed
+pub mod OneMore
+pub mod Joining
+pub mod FreshStations

@@ -24,6 +24,7 @@ pub record Begins (world : World) (loads : List LoadName) (grants : List Grant) 
   pub at : (fresh_tile world loads number).at ≡ 0
   pub number_is : (fresh_tile world loads number).number ≡ number
 
+-- the law of a tile before its first slot
 abbrev pub TilesBegin : Type 0
 TilesBegin = (world : World) (loads : List LoadName) (grants : List Grant) (number : ℕ) → number < world.platform.tiles
     → Begins world loads grants number
@@ -40,6 +41,7 @@ pub record GoesOn (world : World) (loads : List LoadName) (grants : List Grant) 
   pub tables_are : (tile_slot world grants inputs tile).tables
       ≡ tables_after world tile.number grants tile.at tile.tables
 
+-- the law of a tile's slot, where no two grants share a resource and each is of one of the loads
 abbrev pub TilesGoOn : Type 0
 TilesGoOn = (world : World) (loads : List LoadName) (grants : List Grant) (inputs : List WordAndCredits)
     (tile : TileState) → IsSoundWorld world loads → IsApart world grants → AreOfLoads loads grants

@@ -7,4 +7,7 @@ pub mod Views
 pub mod Holds
 pub mod Law
 pub mod Paced
+pub mod Wires
+pub mod Station
+pub mod Turns
 pub mod inner

@@ -1,2 +1,4 @@
+pub mod Calls
+pub mod Joined
 pub mod Ready
 pub mod Stretch

@@ -1,25 +1,25 @@
 -- What a manager knows, and that the next entry keeps it.
-use Rattle.std.proofs.Common.{◌≡◌, ℕ, ◌+◌, ◌^◌, ◌<◌, ◌≤◌, List, [], ◌∷◌, ◌++◌, length, map, get_or, Option, Some, None, sym, ap, subst, ◌∙◌, arith, lit≤, length-append}
+use Rattle.std.proofs.Common.{◌≡◌, ℕ, ◌^◌, ◌<◌, ◌≤◌, List, [], ◌∷◌, ◌++◌, length, get_or, Option, Some, None, sym, ap, subst, ◌∙◌, arith, lit≤, length-append}
 use Rattle.std.proofs.Math.Nat.{le-mul_of_pos_right}
-use Rattle.std.specs.Prelude.{IsSome, IfSome}
-use Rattle.std.specs.List.{All}
-use Rattle.std.specs.Option.{option_to_list}
-use Rattle.std.proofs.lemmas.List.{length-map}
+use Rattle.std.specs.Prelude.{◌≢◌, IfSome}
+use Rattle.std.specs.List.{All, AllPairs}
 use Rattle.soc_base.specs.declared.limits.TheConstants.{LAST_CYCLE, MOST_COMMANDS}
 use Rattle.bundle_model.specs.declared.world.Grant.{Grant}
 use Rattle.vep_manager.specs.declared.setup.Setup.{Setup}
-use Rattle.vep_manager.specs.declared.reply.Reply.{Reply}
 use Rattle.vep_manager.specs.declared.reply.Entry.{Entry}
 use Rattle.vep_manager.specs.Setup.{IsSound, command_count}
 use Rattle.vep_manager.specs.History.{grants_of, horizon_with, horizon_of}
 use Rattle.vep_manager.specs.Legal.{IsLegal}
 use Rattle.vep_manager.specs.inner.Claims.{HasSmallEnd}
 use Rattle.vep_manager.specs.Granted.{IsEarly}
+use Rattle.vep_manager.specs.Owners.{CanAdd}
 use Rattle.vep_manager.specs.Manager.{ManagerState}
-use Rattle.vep_manager.specs.inner.Keeping.{Known, IsKept, counted, ended_by, opened_by, grants_after}
+use Rattle.vep_manager.specs.inner.Keeping.{Known, IsKept, counted, opened_by, grants_after}
 use Rattle.vep_manager.proofs.States.{held, grown, grants_at, commands_at, done_at, IsNextEntry}
-use Rattle.vep_manager.proofs.Standing.{Standing, standing, standing_more, legal_none, legal_more, grants_more}
+use Rattle.vep_manager.proofs.Replied.{next_command, Opens, reply_tells}
+use Rattle.vep_manager.proofs.Standing.{Standing, standing, standing_more, legal_none, legal_more, grants_more, no_number}
 use Rattle.vep_manager.proofs.Settled.{few_grants, few_entries}
+use Rattle.vep_manager.proofs.SetupLemmas.{sound_world}
 
 pub kept_stands : {state : ManagerState} {known : Known} → IsKept state known → Standing state LAST_CYCLE
 kept_stands {state} kept = standing state LAST_CYCLE kept.sound.cycles kept.legal
@@ -41,7 +41,6 @@ pub record Grows (state : ManagerState) (entry : Entry) (before after : Known) (
   pub grants : after.grants ≡ grants_after state.setup entry.reply before.grants
   pub horizon : after.horizon ≡ horizon_with state.setup (counted None history)
   pub entries : after.entry_room ≡ before.entry_room
-  pub loads : after.grant_room ≡ before.grant_room
 
 -- one more entry
 pub kept_more : {state : ManagerState} {before : Known} (entry : Entry) (after : Known) (history : List Entry)
@@ -56,27 +55,49 @@ kept_more {state} {before} entry after history kept is grows = record {
       ∙ ap (grants_of state.setup) (sym grows.appended);
   horizon_known = grows.horizon;
   entries_fit = omega (arith, kept.entries_fit, grows.entries);
-  grants_fit = omega (arith, kept.grants_fit, grows.loads);
 }
-
-one_grant : (reply : Reply) (grants : List Grant) (o : Option Grant) → IsSome o
-    → length (map (ended_by reply) grants ++ option_to_list o) ≡ length grants + 1
-one_grant reply grants None opens = cc
-one_grant reply grants (Some grant) opens =
-    length-append (map (ended_by reply) grants) (grant ∷ []) ∙ ap (λ n. n + 1) (length-map grants (ended_by reply))
 
 stands_more : {state : ManagerState} {known : Known} (entry : Entry) → IsKept state known → IsNextEntry state entry
     → Standing (grown state entry) LAST_CYCLE
 stands_more {state} entry kept is = standing_more state LAST_CYCLE entry kept.sound.cycles is (kept_stands kept)
 
--- the next entry opens a grant only where there is room for it
-pub kept_room : {state : ManagerState} {known : Known} (entry : Entry) → IsKept state known → IsNextEntry state entry
-    → IsSome (opened_by state.setup entry.reply) → length known.grants < known.grant_room
-kept_room {state} entry kept is opens =
-    let few = few_grants (grown state entry) LAST_CYCLE (stands_more entry kept is) in
-    let more = grants_more state LAST_CYCLE entry kept.sound.cycles is (kept_stands kept) in
-    let one = one_grant entry.reply (grants_at state) (opened_by state.setup entry.reply) opens in
-    omega (arith, few, ap length more, one, ap length kept.grants_known, kept.grants_fit)
+-- there are few grants
+pub kept_few : {state : ManagerState} {known : Known} → IsKept state known → length known.grants ≤ MOST_COMMANDS
+kept_few {state} kept = omega (arith, kept_grants kept, (sound_world state.setup kept.sound).few)
+
+-- no two grants have one label
+pub kept_labelled : {state : ManagerState} {known : Known} → IsKept state known
+    → AllPairs (λ one other. one.label ≢ other.label) known.grants
+kept_labelled {state} kept =
+    subst (λ (l : List Grant). AllPairs (λ (one other : Grant). one.label ≢ other.label) l) (sym kept.grants_known)
+    (kept_stands kept).apart.labelled
+
+opened_can : (state : ManagerState) (session : ℕ) (grant : Grant) → Standing state LAST_CYCLE
+    → Opens state LAST_CYCLE session grant
+    → CanAdd (record { setup = state.setup; grants = grants_at state }) grant
+opened_can state session grant stands opens = record {
+  of_load = opens.of_loads;
+  kept = opens.known;
+  new = λ k d below same. no_number state session (get_or (grants_at state) k d).label (same ∙ opens.label)
+      (stands.numbered k d below);
+}
+
+if_can : (o : Option Grant) (P Q : Grant → Type 0) → ((grant : Grant) → P grant → Q grant) → IfSome o P → IfSome o Q
+if_can None P Q weaker opens = tt
+if_can (Some grant) P Q weaker opens = weaker grant opens
+
+-- the grant that the next entry opens can be added
+pub kept_can : {state : ManagerState} {known : Known} (entry : Entry) → IsKept state known → IsNextEntry state entry
+    → IfSome (opened_by state.setup entry.reply) (CanAdd (record { setup = state.setup; grants = known.grants }))
+kept_can {state} {known} entry kept is =
+    let stands = kept_stands kept in
+    let it = next_command state entry is in
+    let tells = reply_tells state LAST_CYCLE entry.session it.0 entry.reply kept.sound.cycles stands.begin_early it.1 in
+    let can = if_can (opened_by state.setup entry.reply) (Opens state LAST_CYCLE entry.session)
+    (CanAdd (record { setup = state.setup; grants = grants_at state }))
+    (λ grant opens. opened_can state entry.session grant stands opens) tells.opens in
+    subst (λ (l : List Grant). IfSome (opened_by state.setup entry.reply) (CanAdd (record { setup = state.setup; grants = l })))
+    (sym kept.grants_known) can
 
 -- there is room for the next entry
 pub kept_space : {state : ManagerState} {known : Known} (entry : Entry) → IsKept state known → IsNextEntry state entry
@@ -95,15 +116,14 @@ kept_short {state} entry kept is =
 -- no history
 pub kept_none : (setup : Setup) (known : Known) → IsSound setup → known.grants ≡ []
     → known.horizon ≡ horizon_with setup (counted None []) → command_count setup ≤ known.entry_room
-    → length setup.loads ≤ known.grant_room → IsKept (held setup []) known
+    → IsKept (held setup []) known
 unfolding grants_of horizon_of
-kept_none setup known sound no_grants is entries loads = record {
+kept_none setup known sound no_grants is entries = record {
   sound = sound;
   legal = legal_none setup;
   grants_known = no_grants;
   horizon_known = is;
   entries_fit = entries;
-  grants_fit = loads;
 }
 
 small_of : (setup : Setup) (limit : ℕ) (end : Option ℕ) → limit ≤ 2 ^ 62 → IfSome end (λ e. IsEarly setup limit e)

@@ -12,3 +12,13 @@ pub mod Longer
 pub mod Keeping
 pub mod Small
 pub mod Laws
+pub mod Ranges
+pub mod HeldOrder
+pub mod HeldHits
+pub mod PoolRows
+pub mod Counts
+pub mod ClaimCounts
+pub mod Holding
+pub mod Indexed
+pub mod FirstOwner
+pub mod Ends

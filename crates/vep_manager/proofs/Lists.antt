@@ -1,11 +1,14 @@
 -- What is found in a list, what holds of pairs of its items, and how lists are split.
 use Rattle.std.proofs.Common.{◌≡◌, ◌≢◌, ℕ, zero, suc, ◌+◌, ◌<◌, ◌≤◌, ◌⊎◌, inl, inr, Bool, true, false, cond, List, [], ◌∷◌, ◌++◌, length, map, take, drop, get_or, Option, Some, None, refl, sym, ap, subst, ◌∙◌, arith, drop-cons, length-append}
 use Rattle.std.specs.Prelude.{is_some, not, nat_lt, unwrap_or}
-use Rattle.std.specs.List.{All, AllPairs, Contains, find, position, position_or_len}
+use Rattle.std.specs.List.{All, AllPairs, Contains, find, position, position_or_len, sum_by}
 use Rattle.std.specs.Option.{option_map, option_and_then}
-use Rattle.std.proofs.lemmas.Bool.{false≢true, ltb-false}
+use Rattle.std.proofs.lemmas.Bool.{false≢true, ltb-false, cond-true, cond-false}
+use Rattle.std.proofs.lemmas.List.Quantifiers.{position-Some}
+use Rattle.bundle_model.proofs.Laws.{none_found, no_place}
 use Rattle.std.proofs.Math.ListN.{set}
-use Rattle.std.proofs.lemmas.List.Sums.{prefix_len-le-length}
+use Rattle.std.proofs.lemmas.List.Sums.{prefix_len-le-length, sum_by-append, sum_by-cons}
+use Rattle.vep_manager.proofs.Counts.{count_all}
 use Rattle.std.proofs.lemmas.List.Edits.{map_over_more}
 use Rattle.std.proofs.lemmas.List.{take-append-drop, get_or_default}
 use Rattle.std.proofs.lemmas.List.Elements.{All-nil, All-cons, All-head, All-tail, All-map, All-contains, All-append, Contains-append_right, Contains-append_left, Contains-append_cases}
@@ -112,10 +115,11 @@ other_stays a b x z apart inside =
           ]
     ]
 
--- items of which no two are one, each an item of another list, are at most as many as it has
-pub fewer : {X : Type 0} (xs ys : List X) → AllPairs (λ a b. a ≢ b) xs → All (Contains ys) xs → length xs ≤ length ys
-fewer [] ys apart inside = omega arith
-fewer {X} (x ∷ xs) ys apart inside =
+-- items of which no two are one, each an item of another list, weigh at most what it does
+pub lighter : {X : Type 0} (f : X → ℕ) (xs ys : List X) → AllPairs (λ a b. a ≢ b) xs → All (Contains ys) xs
+    → sum_by f xs ≤ sum_by f ys
+lighter f [] ys apart inside = omega arith
+lighter {X} f (x ∷ xs) ys apart inside =
     let here = All-head (Contains ys) x xs inside in
     let is = split_at ys here.0 x here.1 here.2 in
     let a : List X = take here.0 ys in
@@ -123,8 +127,22 @@ fewer {X} (x ∷ xs) ys apart inside =
     let others : All (Contains (a ++ b)) xs = λ k d below.
     other_stays a b x (get_or xs k d) (pairs_head (λ a b. a ≢ b) x xs apart k d below)
     (subst (λ (l : List X). Contains l (get_or xs k d)) is (All-tail (Contains ys) x xs inside k d below)) in
-    let rest = fewer xs (a ++ b) (pairs_tail (λ a b. a ≢ b) x xs apart) others in
-    omega (arith, rest, ap length is, length-append a (x ∷ b), length-append a b)
+    let rest = lighter f xs (a ++ b) (pairs_tail (λ a b. a ≢ b) x xs apart) others in
+    omega (
+      arith,
+      rest,
+      ap (sum_by f) is,
+      sum_by-append f a (x ∷ b),
+      sum_by-append f a b,
+      sum_by-cons f x b,
+      sum_by-cons f x xs,
+    )
+
+-- and are at most as many
+pub fewer : {X : Type 0} (xs ys : List X) → AllPairs (λ a b. a ≢ b) xs → All (Contains ys) xs → length xs ≤ length ys
+fewer {X} xs ys apart inside =
+    let light = lighter (λ (x : X). 1) xs ys apart inside in
+    omega (arith, light, count_all xs, count_all ys)
 
 -- where one list with an item at its end is another around an item, that item is the last, or it stands
 -- in the list before the end
@@ -160,3 +178,22 @@ place_cases p xs false is = let past =
 pub place_or : {X : Type 0} (p : X → Bool) (xs : List X)
     → unwrap_or (position p xs) (length xs) ≡ position_or_len p xs
 place_or p xs = place_cases p xs (nat_lt (position_or_len p xs) (length xs)) refl
+
+-- the first item that passes is found
+find_first : {X : Type 0} (p : X → Bool) (xs : List X) (k : ℕ) (d : X) → k < length xs → p (get_or xs k d) ≡ true
+    → ((j : ℕ) → j < k → p (get_or xs j d) ≡ false) → find p xs ≡ Some (get_or xs k d)
+find_first p [] k d inside passes before = absurd (omega (arith, inside))
+find_first p (x ∷ xs) zero d inside passes before = cond-true (p x) (Some x) (find p xs) passes
+find_first p (x ∷ xs) (suc k) d inside passes before =
+    cond-false (p x) (Some x) (find p xs) (before zero (omega arith))
+    ∙ find_first p xs k d (omega (arith, inside)) passes (λ j low. before (suc j) (omega (arith, low)))
+
+-- at its place
+pub find_placed : {X : Type 0} (p : X → Bool) (xs : List X) (k : ℕ) (d : X) → position p xs ≡ Some k
+    → find p xs ≡ Some (get_or xs k d)
+find_placed p xs k d at =
+    let here = position-Some p xs k d at in find_first p xs k d here.0 here.1 here.2
+
+-- and none where it has no place
+pub find_unplaced : {X : Type 0} (p : X → Bool) (xs : List X) → position p xs ≡ None → find p xs ≡ None
+find_unplaced p xs none = none_found p xs (λ k x at. no_place p xs k x none at)

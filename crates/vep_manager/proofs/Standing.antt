@@ -222,7 +222,7 @@ counts_more history entry from (suc sessions) low high =
           omega (arith, one, later)
     ]
 
-no_number : (state : ManagerState) (session : ℕ) (label : Label) → label ≡ label_at state session
+pub no_number : (state : ManagerState) (session : ℕ) (label : Label) → label ≡ label_at state session
     → IsNumbered state label → ⊥
 no_number state session label is numbered =
     let P : Label → Type 0 = λ l. IsNumbered state l in

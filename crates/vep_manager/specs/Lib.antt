@@ -1,5 +1,6 @@
 pub mod Loads
 pub mod Setup
+pub mod Owners
 pub mod History
 pub mod Replies
 pub mod Legal

@@ -1,41 +1,15 @@
 //! What each bundle of a catalog holds of the platform.
 
-ghost use Rattle.std.specs.Prelude.{◌≡◌, ◌<◌, ◌^◌, find, IfOk, IfSome, All};
-ghost use Rattle.std.specs.List.{list_any};
-ghost use Rattle.std.specs.Option.{option_copied};
-ghost use Rattle.bundle_model.specs.Grants.{lasts_to, conflicts};
-ghost use Rattle.bundle_model.specs.Resources.{meets_of};
+ghost use Rattle.std.specs.Prelude.{◌≡◌, IfOk};
+ghost use Rattle.bundle_model.specs.declared.world.World.{World};
 ghost use Rattle.bundle_model.specs.World.{IsSoundCatalog};
 ghost use Rattle.bundle_model.specs.WellFormed.{IsWellFormed};
-ghost use Rattle.vep_manager.specs.inner.Claims.{HasSmallEnd, claimed_at, claimed_by, claims_of};
-ghost use Rattle.vep_manager.specs.Replies.{first_conflict, taken_by};
+ghost use Rattle.vep_manager.specs.inner.Claims.{claimed_at, claimed_by, claims_of};
 
-use crate::reply::Reply;
-use bundle_model::{Grant, Named, Resource, World, meets, resources};
+use bundle_model::{Named, Resource, World, resources};
 use platform_model::Platform;
 use soc_base::{Items, NoMemory};
 use std::alloc::Global;
-use std::marker::Model;
-
-/// A world, with the resources of each bundle of its catalog listed beforehand. Contracts see the
-/// world.
-#[derive(Drop)]
-pub struct Claims<'s> {
-    world: &'s World,
-    lists: Vec<Items<Resource>>,
-}
-
-impl<'s> Model for Claims<'s> {
-    ghost use Rattle.bundle_model.specs.declared.world.World.{World};
-    ghost use Rattle.std.specs.Prelude.{◌≡◌};
-    ghost use Rattle.vep_manager.specs.inner.Claims.{claims_of};
-
-    ghost Value = { World };
-
-    ghost view = { λ c. c.world.now };
-
-    ghost invariant = { λ c. c.lists.items ≡ claims_of c.world.now };
-}
 
 // Lists what a bundle file's bundle holds; nothing where the bundle breaks a rule.
 fn claimed(alloc: Global, platform: &Platform, named: &Named) -> Result<Items<Resource>, NoMemory>
@@ -48,8 +22,8 @@ fn claimed(alloc: Global, platform: &Platform, named: &Named) -> Result<Items<Re
     }
 }
 
-// Lists what each bundle of a catalog holds.
-fn listed(alloc: Global, world: &World) -> Result<Vec<Items<Resource>>, NoMemory>
+/// Lists what each bundle of a world's catalog holds.
+pub fn listed(alloc: Global, world: &World) -> Result<Vec<Items<Resource>>, NoMemory>
     requires { IsSoundCatalog world.now }
     ensures { IfOk result (λ lists. lists.items ≡ claims_of world.now) }
 {
@@ -60,94 +34,13 @@ fn listed(alloc: Global, world: &World) -> Result<Vec<Items<Resource>>, NoMemory
     Ok(lists)
 }
 
-impl<'s> Claims<'s> {
-    /// Lists what each bundle of a world's catalog holds.
-    pub fn new(alloc: Global, world: &'s World) -> Result<Claims<'s>, NoMemory>
-        requires { IsSoundCatalog world.now }
-        ensures { IfOk result (λ claims. claims ≡ world.entry.now) }
-    {
-        let lists = listed(alloc, world)?;
-        Ok(Claims { world, lists })
-    }
-
-    /// Answers what the bundle at a place of the catalog holds: nothing where it breaks a rule or there
-    /// is none.
-    pub fn of_bundle(&self, place: u16) -> &[Resource]
-        ensures { result.now ≡ claimed_at self.now place }
-    {
-        match self.lists.get(usize::from(place)) {
-            Some(list) => list.as_slice(),
-            None => &[],
-        }
-    }
-
-    // Whether a grant conflicts with a resource that is asked for from slot `start` on.
-    fn conflict(&self, start: u64, resource: &Resource, grant: &Grant) -> bool
-        ensures { result ≡ conflicts self.now start resource.now grant.now }
-    {
-        lasts(start, grant) && meets_any(self.of_bundle(grant.bundle), resource)
-    }
-
-    // The first grant that conflicts with a resource.
-    fn holder<'g>(&self, grants: &'g [Grant], start: u64, resource: &Resource) -> Option<&'g Grant>
-        requires { All HasSmallEnd grants.now }
-        ensures small { IfSome (option_copied result) HasSmallEnd }
-        ensures first { option_copied result ≡ find (conflicts self.now start resource.now) grants.entry.now }
-    {
-        grants
-            .iter()
-            .find(|grant| self.conflict(start, resource, grant))
-    }
-
-    /// Answers the first of the resources over which some grant conflicts with a start at this slot,
-    /// with the first such grant.
-    pub fn first_conflict(
-        &self,
-        grants: &[Grant],
-        start: u64,
-        resources: &[Resource],
-    ) -> Option<Reply>
-        requires { All HasSmallEnd grants.now }
-        ensures { result ≡ first_conflict self.now grants.now start resources.now }
-    {
-        for resource in resources {
-            if let Some(grant) = self.holder(grants, start, resource) {
-                return Some(taken(resource, grant));
-            }
-        }
-        None
-    }
-}
-
-// Whether a grant isn't over before a slot.
-fn lasts(slot: u64, grant: &Grant) -> bool
-    ensures { result ≡ lasts_to slot grant.now.end }
+/// Answers what the bundle at a place of the catalog holds, by such lists: nothing where it breaks a rule
+/// or there is none.
+pub fn held_by(lists: &[Items<Resource>], place: u16) -> &[Resource]
+    ensures { (world : World) → lists.entry.now ≡ claims_of world → result.now ≡ claimed_at world place }
 {
-    match grant.end {
-        None => true,
-        Some(end) => slot <= end,
-    }
-}
-
-// Whether one of the resources meets another.
-fn meets_any(held: &[Resource], resource: &Resource) -> bool
-    ensures { result ≡ list_any (λ one. meets_of one resource.now) held.now }
-{
-    held.iter().any(|one| meets(one, resource))
-}
-
-// The reply that a grant holds a resource.
-fn taken(resource: &Resource, grant: &Grant) -> Reply
-    requires { HasSmallEnd grant.now }
-    ensures { result ≡ taken_by resource.now grant.now }
-{
-    let free_from = match grant.end {
-        None => None,
-        Some(end) => Some(end + 1),
-    };
-    Reply::Taken {
-        resource: *resource,
-        owner: grant.label,
-        free_from,
+    match lists.get(usize::from(place)) {
+        Some(list) => list.as_slice(),
+        None => &[],
     }
 }

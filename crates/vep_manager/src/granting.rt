@@ -1,12 +1,15 @@
 //! The loads by name, and the grants that replies give and end.
 
-ghost use Rattle.std.specs.Prelude.{◌≡◌, ◌<◌, ◌≤◌, find, map, length, vec_len, vec_capacity, IsSome};
+ghost use Rattle.std.specs.Prelude.{◌≡◌, ◌≢◌, ◌≤◌, find, map, length, position, AllPairs, IfSome, Some};
 ghost use Rattle.std.specs.Option.{option_copied, option_to_list};
+ghost use Rattle.bundle_model.specs.Grants.{lasts_to};
 ghost use Rattle.bundle_model.specs.World.{same_label};
 ghost use Rattle.vep_manager.specs.Loads.{loaded_name, loaded_names};
+ghost use Rattle.vep_manager.specs.Owners.{CanAdd};
 ghost use Rattle.vep_manager.specs.History.{loaded_place, end_by, end_in, grant_by};
-ghost use Rattle.vep_manager.specs.inner.Keeping.{ended_by, grants_after, opened_by};
+ghost use Rattle.vep_manager.specs.inner.Keeping.{ended_by, grants_after, is_open_of, opened_by};
 
+use crate::owners::OwnerIndex;
 use crate::reply::{Entry, Reply};
 use crate::setup::Setup;
 use bundle_model::{Grant, LoadName};
@@ -104,32 +107,69 @@ pub fn reply_grant(setup: &Setup, history: &[Entry], reply: Reply) -> Option<Gra
     }
 }
 
-// Gives a grant the end that a reply gives it, where it has none.
-fn end_one(grant: &mut Grant, reply: Reply)
-    ensures { grant.new ≡ ended_by reply grant.old }
+/// Answers whether a grant isn't over before a slot.
+pub fn lasts(slot: u64, grant: &Grant) -> bool
+    ensures { result ≡ lasts_to slot grant.now.end }
 {
-    if grant.end.is_none() {
-        grant.end = reply_end(grant.label, reply);
+    match grant.end {
+        None => true,
+        Some(end) => slot <= end,
     }
 }
 
-// Gives each grant the end that a reply gives it.
-fn end_all(grants: &mut [Grant], reply: Reply)
-    ensures { grants.new ≡ map (ended_by reply) grants.old }
+// Whether a grant is of a label and has no end.
+fn is_open(grant: &Grant, label: Label) -> bool
+    ensures { result ≡ is_open_of label grant.now }
 {
-    for grant in grants.iter_mut() {
-        end_one(grant, reply);
+    grant.label == label && grant.end.is_none()
+}
+
+// The place of the first grant of a label that has no end, if there is one.
+fn first_open(grants: &[Grant], label: Label) -> Option<usize>
+    ensures { result ≡ position (is_open_of label) grants.now }
+{
+    grants.iter().position(|grant| is_open(grant, label))
+}
+
+// Gives the grant of a label this end, where it has none.
+fn end_open(owners: &mut OwnerIndex<'_>, label: Label, end: u64)
+    requires few { length owners.old.grants ≤ MOST_COMMANDS }
+    requires labelled { AllPairs (λ one other. one.label ≢ other.label) owners.old.grants }
+    ensures { owners.new ≡ record owners.old { grants = map (ended_by (Reply.Stopped label end)) owners.old.grants } }
+{
+    if let Some(place) = first_open(owners.grants(), label) {
+        owners.set_end(place as u16, end);
     }
 }
 
-/// Brings grants up to date with a reply. Takes no memory.
-pub fn follow(setup: &Setup, grants: &mut Vec<Grant>, reply: Reply)
-    requires { IsSome (opened_by setup.now reply) → vec_len grants.old < vec_capacity grants.old }
-    ensures grants { grants.new.items ≡ grants_after setup.now reply grants.old.items }
-    ensures room { vec_capacity grants.new ≡ vec_capacity grants.old }
+// The grant of a load from a slot on, still open.
+fn opened(setup: &Setup, label: Label, start: u64) -> Grant
+    ensures { Some result ≡ opened_by setup.now (Reply.Granted label start) }
 {
-    end_all(grants.as_mut_slice(), reply);
-    if let Some(grant) = reply_grant(setup, &[], reply) {
-        grants.push_reserved(grant);
+    Grant {
+        label,
+        bundle: place_of(setup, label),
+        start,
+        end: None,
+    }
+}
+
+/// Brings an index of owners up to date with a reply. Takes no memory.
+pub fn follow(setup: &Setup, owners: &mut OwnerIndex<'_>, reply: Reply)
+    requires same { setup.now ≡ owners.old.setup }
+    requires few { length owners.old.grants ≤ MOST_COMMANDS }
+    requires labelled { AllPairs (λ one other. one.label ≢ other.label) owners.old.grants }
+    requires can { IfSome (opened_by setup.now reply) (CanAdd owners.old) }
+    ensures { owners.new ≡ record owners.old { grants = grants_after setup.now reply owners.old.grants } }
+{
+    match reply {
+        Reply::Granted { label, start } => owners.add(setup, &opened(setup, label, start)),
+        Reply::Stopped { label, end } => end_open(owners, label, end),
+        Reply::Malformed(_)
+        | Reply::Past(_)
+        | Reply::Taken { .. }
+        | Reply::NoLoad
+        | Reply::Already(_)
+        | Reply::Horizon(_) => {}
     }
 }

@@ -11,6 +11,8 @@
 
 /// What each bundle of a catalog holds.
 mod claims;
+/// Whether a load's resources are held.
+mod conflict;
 /// The loads by name, and their grants.
 mod granting;
 /// How far the sessions have come.
@@ -21,6 +23,8 @@ mod loads;
 mod theorems;
 /// Committing commands, one at a time.
 mod manager;
+/// Which of the grants hold a resource.
+mod owners;
 /// What a command is answered.
 mod reply;
 /// What a run knows beforehand.
@@ -33,6 +37,7 @@ mod tests;
 pub use granting::reply_grant;
 pub use loads::named_loads;
 pub use manager::Manager;
+pub use owners::OwnerIndex;
 pub use reply::{Entry, Reply};
 pub use setup::Setup;
 pub use theorems::{

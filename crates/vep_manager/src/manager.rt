@@ -7,9 +7,10 @@ ghost use Rattle.vep_manager.specs.Replies.{stop_reply, fits_reply};
 ghost use Rattle.vep_manager.specs.inner.Keeping.{counted};
 ghost use Rattle.vep_manager.specs.inner.Claims.{claimed_at};
 
-use crate::claims::Claims;
+use crate::conflict::first_conflict;
 use crate::granting::{follow, load_count, named_grant, named_load};
 use crate::horizon::{command_after, commands, count, horizon, slot_for};
+use crate::owners::OwnerIndex;
 use crate::reply::{Entry, Reply};
 use crate::setup::Setup;
 use bundle_model::{Grant, Schedule};
@@ -22,9 +23,8 @@ use std::marker::Model;
 #[derive(Drop)]
 pub struct Manager<'s> {
     setup: &'s Setup,
-    claims: Claims<'s>,
+    owners: OwnerIndex<'s>,
     history: Vec<Entry>,
-    grants: Vec<Grant>,
     horizon: u64,
 }
 
@@ -39,12 +39,11 @@ impl<'s> Model for Manager<'s> {
 
     ghost invariant = { λ m. IsKept (record { setup = m.setup.now; history = m.history.items })
         (record {
-          grants = m.grants.items;
+          grants = m.owners.grants;
           horizon = m.horizon;
           entry_room = vec_capacity m.history;
-          grant_room = vec_capacity m.grants;
         })
-        × (m.claims ≡ m.setup.now.world) };
+        × (m.owners.setup ≡ m.setup.now) };
 }
 
 // The reply to a stop of a grant.
@@ -93,15 +92,13 @@ impl<'s> Manager<'s> {
         ensures legal { IsLegal setup.entry.now [] }
         ensures no_grants { grants_of setup.entry.now [] ≡ [] }
     {
-        let claims = Claims::new(alloc, &setup.world)?;
+        let owners = OwnerIndex::new(alloc, setup)?;
         let history = Vec::with_capacity(alloc, total(setup))?;
-        let grants = Vec::with_capacity(alloc, setup.loads.len())?;
         let horizon = horizon(setup, &[], None);
         Ok(Manager {
             setup,
-            claims,
+            owners,
             history,
-            grants,
             horizon,
         })
     }
@@ -143,11 +140,8 @@ impl<'s> Manager<'s> {
         if start < self.horizon {
             return Reply::Past(self.horizon);
         }
-        let wanted = self.claims.of_bundle(place);
-        let taken = self
-            .claims
-            .first_conflict(self.grants.as_slice(), start, wanted);
-        match taken {
+        let wanted = self.owners.of_bundle(place);
+        match first_conflict(&self.owners, start, wanted) {
             Some(reply) => reply,
             None => Reply::Granted { label, start },
         }
@@ -173,7 +167,7 @@ impl<'s> Manager<'s> {
     fn stop_reply(&self, label: Label, slot: u64) -> Reply
         ensures { result ≡ label_stop self.now.setup self.now.history label slot }
     {
-        match named_grant(self.grants.as_slice(), label) {
+        match named_grant(self.owners.grants(), label) {
             Some(grant) => stopped(self.horizon, slot, grant),
             None => Reply::NoLoad,
         }
@@ -227,7 +221,7 @@ impl<'s> Manager<'s> {
         requires { next_entry self.old.setup self.old.history entry.session ≡ Some entry }
         ensures { self.new ≡ record self.old { history = self.old.history ++ entry ∷ [] } }
     {
-        follow(self.setup, &mut self.grants, entry.reply);
+        follow(self.setup, &mut self.owners, entry.reply);
         self.history.push_reserved(entry);
         self.horizon = horizon(self.setup, self.history.as_slice(), None);
     }
@@ -260,7 +254,7 @@ impl<'s> Manager<'s> {
         ensures legal { IsLegal self.now.setup self.now.history }
     {
         into.grants.clear();
-        for grant in self.grants.as_slice() {
+        for grant in self.owners.grants() {
             into.grants.push_reserved(*grant);
         }
         into.horizon = self.horizon;

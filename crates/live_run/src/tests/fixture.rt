@@ -1,6 +1,6 @@
-//! The setup of a run of short scripts on the plain platform.
+//! The setup of a run of short scripts, on the plain platform or on two tiles.
 
-ghost use Rattle.std.specs.Prelude.{◌≡◌, ◌<◌, length, nat_lt, All, IfOk};
+ghost use Rattle.std.specs.Prelude.{◌≡◌, ◌≤◌, length, nat_lt, All, IfOk};
 ghost use Rattle.std.specs.List.{list_all};
 ghost use Rattle.bundle_model.specs.WellFormed.{IsWellFormed};
 ghost use Rattle.bundle_model.specs.World.{IsSoundCatalog};
@@ -8,15 +8,21 @@ ghost use Rattle.vep_manager.specs.Setup.{IsSound};
 ghost use Rattle.live_run.specs.inner.Small.{IsSmallCommand, IsSmallScript};
 
 use bundle_model::{Bundle, LoadName, Named, RawBundle, RawPart, World, check};
-use platform_model::Platform;
+use platform_model::{Platform, RawLink, RawPlatform};
 use script_file::{Command, Script};
 use soc_base::{Items, MOST_SCRIPTS, Text};
 use std::alloc::Global;
 use std::test::Fail;
 use vep_manager::{Setup, named_loads};
 
-/// The slot at which the runs end.
-pub const BUDGET: u64 = 42;
+/// The platform of a run.
+#[derive(Clone, Copy)]
+pub enum Tiles {
+    /// The plain platform, of one tile.
+    One,
+    /// Two such tiles, joined both ways.
+    Joined,
+}
 
 /// A command, which states a cycle.
 #[derive(Clone, Copy)]
@@ -29,19 +35,26 @@ pub enum Ask {
     Until(u16),
 }
 
-// A bundle of one part, in partition slot 0, that ends at once.
+// A bundle of one part in partition slot 0 of tile 0 that traces 7 and ends: its instructions take 1, 1, 4 and
+// 1 cycles. On the plain platform the slot is served from cycle 72 on, and again 256 cycles later.
 fn bundle(alloc: Global, platform: &Platform) -> Result<Bundle, Fail>
     ensures { IfOk result (IsWellFormed platform.now) }
 {
+    let image = vec![in alloc;
+        0x0070_0293, // addi x5, x0, 7
+        0x8000_0337, // lui x6, 0x80000
+        0x0053_2023, // sw x5, 0(x6)
+        0x0000_0073, // ecall
+    ]?;
     let part = RawPart {
         tile: 0,
         slots: Items::from_vec(vec![in alloc; 0]?),
         base: 0,
         len: 64,
-        image: Some(Items::from_vec(vec![in alloc; 0x0000_0073]?)),
+        image: Some(Items::from_vec(image)),
         entry: 0,
         trace: 16,
-        kinds: Items::new(alloc),
+        kinds: Items::from_vec(vec![in alloc; Text::from_str(alloc, "word")?]?),
         ports: Items::new(alloc),
     };
     let raw = RawBundle {
@@ -52,12 +65,38 @@ fn bundle(alloc: Global, platform: &Platform) -> Result<Bundle, Fail>
     Ok(check(alloc, &raw, platform)?)
 }
 
-// The plain platform and one bundle file.
-fn world(alloc: Global) -> Result<World, Fail>
+// Output 0 of each tile leads to input 0 of the other.
+fn joined(alloc: Global) -> Result<Platform, Fail> {
+    let mut raw = RawPlatform::plain(alloc);
+    raw.tiles = 2;
+    raw.links.push(RawLink {
+        from: 0,
+        out: 0,
+        to: 1,
+        input: 0,
+    })?;
+    raw.links.push(RawLink {
+        from: 1,
+        out: 0,
+        to: 0,
+        input: 0,
+    })?;
+    Ok(Platform::check(alloc, &raw)?)
+}
+
+fn platform(alloc: Global, tiles: Tiles) -> Result<Platform, Fail> {
+    match tiles {
+        Tiles::One => Ok(Platform::plain(alloc)?),
+        Tiles::Joined => joined(alloc),
+    }
+}
+
+// The platform and one bundle file.
+fn world(alloc: Global, tiles: Tiles) -> Result<World, Fail>
     ensures sound { IfOk result IsSoundCatalog }
     ensures one { IfOk result (λ world. length world.catalog ≡ 1) }
 {
-    let platform = Platform::plain(alloc)?;
+    let platform = platform(alloc, tiles)?;
     let named = Named {
         name: Text::from_str(alloc, "app")?,
         judged: Ok(bundle(alloc, &platform)?),
@@ -124,12 +163,13 @@ fn are_known(loads: &[LoadName], world: &World) -> bool
         .all(|load| usize::from(load.bundle) < world.catalog.len())
 }
 
-/// The setup of a run of 1 to 16 sessions, each of at most 16 commands, over 42 slots, which are 336
-/// cycles.
-pub fn setup(alloc: Global, table: &[&[Ask]]) -> Result<Setup, Fail>
+/// The setup of a run of 1 to 16 sessions, each of at most 16 commands, over so many slots, at most 1,000. On
+/// these platforms a slot has 8 cycles.
+pub fn setup(alloc: Global, tiles: Tiles, table: &[&[Ask]], budget: u64) -> Result<Setup, Fail>
+    requires { budget ≤ 1000 }
     ensures { IfOk result IsSound }
 {
-    let world = world(alloc)?;
+    let world = world(alloc, tiles)?;
     let scripts = scripts(alloc, table)?;
     if scripts.len() == 0 || scripts.len() > MOST_SCRIPTS {
         return Err(Fail::new("there are no sessions or too many"));
@@ -141,7 +181,7 @@ pub fn setup(alloc: Global, table: &[&[Ask]]) -> Result<Setup, Fail>
     }
     Ok(Setup {
         world,
-        budget: BUDGET,
+        budget,
         scripts,
         loads,
     })

@@ -1,11 +1,8 @@
 //! A gate that holds a session back.
 
+use super::waiting::wait_for;
 use std::sync::atomic::{AtomicBool, Ordering};
-use std::thread;
 use tile_workers::{Gate, Who};
-
-// How often a session that is held looks again before it goes on all the same.
-const MOST_TURNS: u32 = 10_000_000;
 
 /// A gate at which one session waits, after its first command, until another has committed its last.
 #[derive(Drop)]
@@ -30,15 +27,11 @@ impl Holding {
         }
     }
 
-    // Waits for the end of the other session, so many turns at most.
+    // Waits for the end of the other session.
     fn wait(&self) {
-        for _turn in 0..MOST_TURNS {
-            if self.ended.load(Ordering::SeqCst) {
-                return;
-            }
-            thread::yield_now();
+        if !wait_for(&self.ended) {
+            self.gave_up.store(true, Ordering::SeqCst);
         }
-        self.gave_up.store(true, Ordering::SeqCst);
     }
 
     /// Answers whether the session went on before the other had ended.
@@ -49,13 +42,16 @@ impl Holding {
 
 impl Gate for Holding {
     fn pass(&self, who: Who) {
-        if let Who::Committed { session, index } = who {
-            if session == self.other && index == self.last {
-                self.ended.store(true, Ordering::SeqCst);
+        match who {
+            Who::Committed { session, index } => {
+                if session == self.other && index == self.last {
+                    self.ended.store(true, Ordering::SeqCst);
+                }
+                if session == self.held && index == 1 {
+                    self.wait();
+                }
             }
-            if session == self.held && index == 1 {
-                self.wait();
-            }
+            Who::Advanced { .. } => {}
         }
     }
 }

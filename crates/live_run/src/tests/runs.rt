@@ -2,7 +2,7 @@
 
 ghost use Rattle.vep_manager.specs.Setup.{IsSound};
 
-use super::fixture::{Ask, BUDGET, setup};
+use super::fixture::{Ask, Tiles, setup};
 use super::holding::Holding;
 use crate::live;
 use serial_run::RunEnd;
@@ -35,22 +35,22 @@ fn check_used_up<A: Abort>(rt: &A, manager: &mut Manager<'_>) {
 }
 
 // Checks that each tile has come to the end of the run.
-fn check_stations<A: Abort>(rt: &A, end: &RunEnd) {
+fn check_stations<A: Abort>(rt: &A, setup: &Setup, end: &RunEnd) {
     for station in end.stations.as_slice() {
-        assert_eq!(rt; station.tile.at(), BUDGET);
+        assert_eq!(rt; station.tile.at(), setup.budget);
     }
 }
 
-// Checks a run: a manager on one thread that commits in the order of its history makes the same history,
-// and then has nothing left; and the tiles have come to the end.
-fn check_end<A: Abort>(rt: &A, alloc: Global, setup: &Setup, end: &RunEnd) -> Result<(), Fail>
+/// Checks a run: a manager on one thread that commits in the order of its history makes the same history,
+/// and then has nothing left; and all tiles have come to the end.
+pub fn check_end<A: Abort>(rt: &A, alloc: Global, setup: &Setup, end: &RunEnd) -> Result<(), Fail>
     requires { IsSound setup.now }
 {
     let mut manager = Manager::new(alloc, setup)?;
     check_entries(rt, &mut manager, end.history.as_slice());
     check_used_up(rt, &mut manager);
-    assert_eq!(rt; end.stations.len(), 1);
-    check_stations(rt, end);
+    assert_eq!(rt; end.stations.len(), usize::from(setup.world.platform.tiles));
+    check_stations(rt, setup, end);
     Ok(())
 }
 
@@ -69,6 +69,9 @@ fn place(history: &[Entry], session: u8, index: u16) -> Option<usize> {
         .position(|entry| entry.session == session && entry.index == index)
 }
 
+// The counts of workers that runs are tried with: of one tile there is one all the same.
+const WORKERS: [u8; 3] = [1, 2, 255];
+
 #[test]
 fn commits_every_command_once(rt: HostRuntime) -> Result<(), Fail> {
     let alloc = rt.alloc();
@@ -77,13 +80,15 @@ fn commits_every_command_once(rt: HostRuntime) -> Result<(), Fail> {
         &[Ask::Until(16), Ask::Stop(0), Ask::Until(24)],
         &[Ask::Load(8), Ask::Until(80), Ask::Stop(160)],
     ];
-    let setup = setup(alloc, &table)?;
-    let end = live(&rt, alloc, &setup, &Free)?;
-    check_end(&rt, alloc, &setup, &end)?;
-    assert_eq!(rt; end.history.len(), 7);
-    // Whichever load comes first holds the partition slot; the other one is refused, or comes after the
-    // stop.
-    assert!(rt; granted(end.history.as_slice()) >= 1);
+    let setup = setup(alloc, Tiles::Joined, &table, 42)?;
+    for workers in WORKERS {
+        let end = live(&rt, alloc, &setup, workers, &Free)?;
+        check_end(&rt, alloc, &setup, &end)?;
+        assert_eq!(rt; end.history.len(), 7);
+        // Whichever load comes first holds the partition slot; the other one is refused, or comes after the
+        // stop.
+        assert!(rt; granted(end.history.as_slice()) >= 1);
+    }
     Ok(())
 }
 
@@ -95,9 +100,9 @@ fn a_session_that_is_held_comes_after_another(rt: HostRuntime) -> Result<(), Fai
         &[Ask::Until(8)],
         &[Ask::Until(8), Ask::Until(24), Ask::Until(32)],
     ];
-    let setup = setup(alloc, &table)?;
+    let setup = setup(alloc, Tiles::One, &table, 42)?;
     let gate = Holding::new(1, 3, 3);
-    let end = live(&rt, alloc, &setup, &gate)?;
+    let end = live(&rt, alloc, &setup, 1, &gate)?;
     check_end(&rt, alloc, &setup, &end)?;
     let history = end.history.as_slice();
     let other = place(history, 3, 3);
@@ -111,10 +116,12 @@ fn sixteen_sessions_make_one_history(rt: HostRuntime) -> Result<(), Fail> {
     let alloc = rt.alloc();
     let row = [Ask::Until(8); 16];
     let table = [row.as_slice(); 16];
-    let setup = setup(alloc, &table)?;
-    let end = live(&rt, alloc, &setup, &Free)?;
-    check_end(&rt, alloc, &setup, &end)?;
-    assert_eq!(rt; end.history.len(), 256);
+    let setup = setup(alloc, Tiles::One, &table, 42)?;
+    for workers in WORKERS {
+        let end = live(&rt, alloc, &setup, workers, &Free)?;
+        check_end(&rt, alloc, &setup, &end)?;
+        assert_eq!(rt; end.history.len(), 256);
+    }
     Ok(())
 }
 
@@ -123,8 +130,8 @@ fn an_empty_script_stands_beside_a_long_one(rt: HostRuntime) -> Result<(), Fail>
     let alloc = rt.alloc();
     let row = [Ask::Until(8); 16];
     let table: [&[Ask]; 2] = [&[], &row];
-    let setup = setup(alloc, &table)?;
-    let end = live(&rt, alloc, &setup, &Free)?;
+    let setup = setup(alloc, Tiles::One, &table, 42)?;
+    let end = live(&rt, alloc, &setup, 2, &Free)?;
     check_end(&rt, alloc, &setup, &end)?;
     assert_eq!(rt; end.history.len(), 16);
     Ok(())

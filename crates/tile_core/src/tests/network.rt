@@ -87,7 +87,7 @@ fn pair(alloc: Global, platform: &Platform) -> Result<Bundle, Fail>
     Ok(check(alloc, &raw, platform)?)
 }
 
-fn joined(alloc: Global) -> Result<World, Fail>
+pub(super) fn joined(alloc: Global) -> Result<World, Fail>
     ensures sound { IfOk result IsSoundCatalog }
     ensures two { IfOk result (λ world. length world.catalog ≡ 2) }
 {
@@ -97,7 +97,7 @@ fn joined(alloc: Global) -> Result<World, Fail>
 }
 
 // Checks a port: the oldest word that waits, the oldest received, how many were received, and the credit.
-fn check_port<A: Abort>(
+pub(super) fn check_port<A: Abort>(
     rt: &A,
     world: &World,
     tile: &Tile,

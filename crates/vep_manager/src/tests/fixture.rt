@@ -15,9 +15,12 @@ use soc_base::{Items, MOST_SCRIPTS, Text};
 use std::alloc::Global;
 use std::test::Fail;
 
-// The bundle files of the catalog, each of one part: its name, its partition slots, as the first one and
-// the one after the last, and the base and length of its region. The second `a` is never loaded.
-const FILES: [(&str, i64, i64, i64, i64); 6] = [
+/// A bundle file of one part: its name, its partition slots, as the first one and the one after the last,
+/// and the base and length of its region.
+pub type File = (&'static str, i64, i64, i64, i64);
+
+// The bundle files of the catalog. The second `a` is never loaded.
+const FILES: [File; 6] = [
     ("a", 0, 1, 0, 64),
     ("b", 1, 2, 64, 64),
     ("over", 1, 2, 48, 64),
@@ -77,12 +80,19 @@ fn named(alloc: Global, platform: &Platform, name: &str, raw: &RawBundle) -> Res
 pub fn world(alloc: Global) -> Result<World, Fail>
     ensures { IfOk result IsSoundCatalog }
 {
+    world_of(alloc, &FILES)
+}
+
+/// The plain platform with a catalog of these bundle files.
+pub fn world_of(alloc: Global, files: &[File]) -> Result<World, Fail>
+    ensures { IfOk result IsSoundCatalog }
+{
     let mut world = World {
         platform: Platform::plain(alloc)?,
         catalog: Items::new(alloc),
     };
-    for (name, from, to, base, len) in FILES {
-        let raw = raw(alloc, slots(alloc, from, to)?, base, len)?;
+    for (name, from, to, base, len) in files {
+        let raw = raw(alloc, slots(alloc, *from, *to)?, *base, *len)?;
         let named = named(alloc, &world.platform, name, &raw)?;
         world.catalog.push(named)?;
     }

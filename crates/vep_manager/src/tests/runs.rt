@@ -46,6 +46,22 @@ fn command(alloc: Global, ask: Ask) -> Result<Command, Fail>
     }
 }
 
+/// The script that loads these bundle files at cycle 0, at most 16 of them.
+pub fn load_script(alloc: Global, names: &[&'static str]) -> Result<Script, Fail>
+    ensures { IfOk result IsSmallScript }
+{
+    let mut commands = Vec::new(alloc);
+    for name in names {
+        commands.push(command(alloc, Ask::Load(*name, 0))?)?;
+    }
+    if commands.len() > 16 {
+        return Err(Fail::new("a script is too long"));
+    }
+    Ok(Script {
+        commands: Items::from_vec(commands),
+    })
+}
+
 // The commands of a session.
 fn commands(alloc: Global, steps: &[Step], session: u8) -> Result<Vec<Command>, Fail>
     ensures { IfOk result (λ commands. All IsSmallCommand commands.items) }

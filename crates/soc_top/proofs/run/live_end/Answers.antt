@@ -4,7 +4,7 @@ use Rattle.soc_top.proofs.run.live_end.Goals as goal
 
 pub returns-in-Ok : goal.returns-in-Ok
 returns-in-Ok g c =
-    run_ended (IsHistoryBy 1) (g.F.Files.holds c.args.files.now) (g.F.Files.faults c.args.files.now)
+    run_ended (IsHistoryBy c.args.request.now.workers) (g.F.Files.holds c.args.files.now) (g.F.Files.faults c.args.files.now)
     (g.F.Files.faults c.read_setup.new.files) (g.S.Sink.written c.args.sink.now)
     (g.S.Sink.written c.live_report.new.sink) (g.S.Sink.faults c.args.sink.now)
     (g.S.Sink.faults c.live_report.new.sink) c.args.request.now c.in-Ok.setup c.live_report.result c.in-Ok.ensures.read

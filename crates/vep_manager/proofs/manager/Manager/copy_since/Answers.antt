@@ -8,7 +8,7 @@ push_reserved-requires c =
     omega (
       arith,
       kept_grants c.self.invariant.0,
-      ap length c.as_slice-grant-items.ensures.value,
+      ap length c.grants-grant-items.ensures,
       ap
           (λ (k : ManagerState). length k.setup.loads) c.self.view_is,
       c.loop-grant.invariant,

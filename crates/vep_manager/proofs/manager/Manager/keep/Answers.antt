@@ -1,18 +1,32 @@
 use Rattle.std.proofs.Common.{◌≡◌, List, length, Some, None, vec_capacity, ap, subst, sym, ◌∙◌, arith}
+use Rattle.std.specs.Prelude.{IfSome}
 use Rattle.vep_manager.specs.Replies.{next_entry}
 use Rattle.vep_manager.specs.Manager.{ManagerState}
-use Rattle.vep_manager.specs.inner.Keeping.{Known, counted}
+use Rattle.vep_manager.specs.Owners.{Owners, CanAdd}
+use Rattle.vep_manager.specs.declared.setup.Setup.{Setup}
+use Rattle.vep_manager.specs.inner.Keeping.{Known, counted, opened_by}
 use Rattle.vep_manager.specs.History.{horizon_with}
 use Rattle.vep_manager.specs.declared.reply.Entry.{Entry}
-use Rattle.vep_manager.proofs.Keeping.{kept_room, kept_space, kept_short, kept_more}
+use Rattle.vep_manager.proofs.Keeping.{kept_few, kept_labelled, kept_can, kept_space, kept_short, kept_more}
 use Rattle.vep_manager.proofs.manager.Manager.keep.Goals as goal
 
-pub follow-requires : goal.follow-requires
-follow-requires c = λ opens.
+pub follow-requires-clause-same : goal.follow-requires-clause-same
+follow-requires-clause-same c = sym c.self.invariant.1
+
+pub follow-requires-clause-few : goal.follow-requires-clause-few
+follow-requires-clause-few c = kept_few c.self.invariant.0
+
+pub follow-requires-clause-labelled : goal.follow-requires-clause-labelled
+follow-requires-clause-labelled c = kept_labelled c.self.invariant.0
+
+pub follow-requires-clause-can : goal.follow-requires-clause-can
+follow-requires-clause-can c =
+    let setup = c.self.inside.setup.now in
     let next = subst (λ (k : ManagerState). next_entry k.setup k.history c.args.entry.session ≡ Some c.args.entry)
     (sym c.self.view_is) c.requires in
-    let low = kept_room c.args.entry c.self.invariant.0 next opens in
-    omega (arith, low, c.self.inside.grants.ok)
+    subst (λ (s : Setup). IfSome (opened_by setup c.args.entry.reply)
+    (CanAdd (record { setup = s; grants = c.self.inside.owners.grants }))) (sym c.self.invariant.1)
+    (kept_can c.args.entry c.self.invariant.0 next)
 
 pub push_reserved-requires : goal.push_reserved-requires
 push_reserved-requires c =
@@ -34,16 +48,14 @@ invariant_of-self c =
     (sym c.self.view_is) c.requires in
     let over = λ (history : List Entry). horizon_with c.self.inside.setup.now (counted None history) in
     let after : Known = record {
-      grants = c.follow.new.grants.items;
+      grants = c.follow.new.owners.grants;
       horizon = c.horizon-self-inside.result;
       entry_room = vec_capacity c.push_reserved.new.self;
-      grant_room = vec_capacity c.follow.new.grants;
     } in
     let kept = kept_more c.args.entry after c.push_reserved.new.self.items c.self.invariant.0 next (record {
       appended = c.push_reserved.ensures.items;
-      grants = c.follow.ensures.grants;
+      grants = ap (λ (o : Owners). o.grants) c.follow.ensures;
       horizon = c.horizon-self-inside.ensures ∙ ap over c.as_slice.ensures.value;
       entries = c.push_reserved.ensures.capacity;
-      loads = c.follow.ensures.room;
     }) in
-    (kept, c.self.invariant.1)
+    (kept, ap (λ (o : Owners). o.setup) c.follow.ensures ∙ c.self.invariant.1)

@@ -1,0 +1,7 @@
+pub mod Zips
+pub mod Passes
+pub mod Standing
+pub mod Counts
+pub mod Waiting
+pub mod Turning
+pub mod Small
