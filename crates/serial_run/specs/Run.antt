@@ -24,12 +24,12 @@ use Rattle.serial_run.specs.declared.end.RunEnd.{RunEnd}
 abbrev pub tiles_of : List Station → List TileState
 tiles_of stations = map (λ station. station.tile) stations
 
--- what was set into a link so far, by the station that it leaves, and what was taken from it, by the station
--- that it enters
+-- what was set into a link so far, by the station that it leaves
 abbrev pub set_into : List Station → Link → List WordAndCredits
 set_into stations link =
     option_map_or (λ station. flits_at (map out_seen station.outs.items) link.out) (slice_get stations link.from) []
 
+-- what was taken from a link so far, by the station that it enters
 abbrev pub taken_from : List Station → Link → List WordAndCredits
 taken_from stations link =
     option_map_or (λ station. flits_at (map in_seen station.ins.items) link.input) (slice_get stations link.to) []

@@ -1,17 +1,22 @@
 //! Comparing what tiles logged: with expected rows, with the tiles of another run, and with each application
 //! alone.
 
+ghost use Rattle.std.specs.Prelude.{◌<◌};
 ghost use Rattle.vep_manager.specs.Setup.{IsSound};
 
 use alone_model::{AppTrace, PartTrace, alone};
 use bundle_model::Grant;
 use event_core::{Core, Event};
+use live_run::live;
 use serial_run::{RunEnd, serial_all};
 use soc_base::Label;
 use std::alloc::Global;
 use std::process::Abort;
+use std::sync::Wait;
 use std::test::Fail;
+use std::thread::Threads;
 use tile_core::Tile;
+use tile_workers::Free;
 use trace_log::{Kind, PartEnd, PartLog, TraceRow};
 use vep_manager::{Setup, reply_grant};
 
@@ -162,6 +167,21 @@ pub fn checked_run<A: Abort>(
     let end = serial_all(alloc, setup)?;
     assert_eq!(rt; check_alone(rt, alloc, setup, &end)?, granted);
     Ok(end)
+}
+
+/// Runs a setup by threads, so many of them for the tiles, checks that each granted load has the logs of its
+/// application alone, and answers how many there are.
+pub fn checked_live<R: Abort + Threads + Wait + Sync>(
+    rt: &R,
+    alloc: Global,
+    setup: &Setup,
+    workers: u8,
+) -> Result<u64, Fail>
+    requires sound { IsSound setup.now }
+    requires threads { 0 < workers }
+{
+    let end = live(rt, alloc, setup, workers, &Free)?;
+    check_alone(rt, alloc, setup, &end)
 }
 
 /// A tile at the end of a run.

@@ -1,5 +1,6 @@
 //! Tests over whole setups: the texts of a platform, of bundles and of scripts are read and judged as the
-//! program does it, and then run on one thread (`serial_run`) or event by event (`event_core`).
+//! program does it, and then run on one thread (`serial_run`), by threads (`live_run`) or event by event
+//! (`event_core`).
 //!
 //! There is nothing here but tests: what a run does is proved in the crates below. `setups` reads a setup,
 //! `texts` and `meshes` have platforms and bundles, and `checks` compares logs. What the other files expect
@@ -30,3 +31,6 @@ mod switch_tests;
 /// Platforms and bundles as texts.
 #[cfg(test)]
 mod texts;
+/// A workload by threads.
+#[cfg(test)]
+mod workload_tests;

@@ -40,3 +40,11 @@ fell_by most least old new (inr stays) = inr stays
 -- none of it counts any more
 pub rose_none : (least old new : ℕ) → RoseBy least old new → RoseBy 0 old new
 rose_none least old new rose = fell_by (2 ^ 64 - 1) least old new rose
+
+up_by : (most least old mid new : ℕ) → Rose most least old mid → mid ≤ new → Rose most 0 old new
+up_by most least old mid new (inl rose) up = inl (omega arith)
+up_by most least old mid new (inr stays) up = let at = stays.1 in let low = stays.0 in inr (omega arith, omega arith)
+
+-- nor after it went on by any number
+pub rose_up : (least old mid new : ℕ) → RoseBy least old mid → mid ≤ new → RoseBy 0 old new
+rose_up least old mid new rose up = up_by (2 ^ 64 - 1) least old mid new rose up

@@ -1,5 +1,6 @@
 pub mod Zips
 pub mod Passes
+pub mod GoingOn
 pub mod Standing
 pub mod Counts
 pub mod Waiting

@@ -148,3 +148,15 @@ after_pass setup history world until schedule old new stands passed =
       within = zip_all R (IsWithin until schedule.horizon) (IsWithin until schedule.horizon)
           (λ x y one within. passed_within world schedule until one.0 x y one.1 within) old new passed stands.within;
     }
+
+-- after the first pass of a turn
+pub first_pass : (setup next_setup : Setup) (old new : List Entry) (world : World) (until : ℕ)
+    (schedule next : Schedule) (stations passed : List Station) → IsSound setup → world ≡ setup.world
+    → Stands setup old world until schedule stations → next_setup ≡ setup → IsPrefix old new
+    → IsLegal next_setup new → IsScheduleOf next_setup new next → ArePassed world next until stations passed
+    → Stands next_setup new world until next passed
+first_pass setup next_setup old new world until schedule next stations passed sound world_is stands same begins legal
+    of each =
+    let begun = turn_begins setup next_setup old new world until schedule next stations sound world_is stands same
+    begins legal of in
+    after_pass next_setup new world until next stations passed begun.0 each

@@ -1,5 +1,5 @@
 -- A worker from turn to turn, and what it ends with.
-use Rattle.std.proofs.Common.{◌≡◌, ℕ, ◌+◌, ◌^◌, ◌<◌, ◌≤◌, ◌≢◌, ◌⊎◌, Bool, true, false, List, [], ◌∷◌, map, get_or, ◌||◌, nat_lt, Some, true≢false, refl, sym, ap, subst, ◌∙◌, inl, inr, arith}
+use Rattle.std.proofs.Common.{◌≡◌, ℕ, ◌+◌, ◌<◌, ◌≤◌, ◌≢◌, ◌⊎◌, Bool, true, false, List, [], ◌∷◌, map, get_or, ◌||◌, nat_lt, Some, true≢false, refl, sym, ap, subst, ◌∙◌, inl, inr, arith}
 use mathlib.Core.List.{IsPrefix}
 use Rattle.std.specs.List.{AllZip}
 use Rattle.std.proofs.Math.Nat.{eq-or-lt_of_le}
@@ -15,7 +15,7 @@ use Rattle.tile_core.specs.declared.station.Station.{Station}
 use Rattle.tile_core.specs.Station.{station_state, ends_of}
 use Rattle.tile_workers.specs.declared.working.TheConstants.{MOST_IDLE_TURNS}
 use Rattle.tile_workers.specs.Work.{RoseBy, Rises, IsScheduleOf, AreWithin, AreDone, IsIdle}
-use Rattle.tile_workers.specs.inner.Passing.{is_below, IsPassed, IsPass, Stands}
+use Rattle.tile_workers.specs.inner.Passing.{is_below, IsPassed, HasGoneOn, IsTurnOf, Stands}
 use Rattle.tile_workers.proofs.Zips.{zip_same, zip_then, zip_map, zip_at}
 use Rattle.tile_workers.proofs.Standing.{prefix_then}
 use Rattle.tile_workers.proofs.Counts.{rose_then, rose_none}
@@ -38,7 +38,7 @@ pub record IsTurn (world : World) (until : ℕ) (moved : Bool) (setup : Setup) (
   pub begins : IsPrefix seen more
   pub whole : IsScheduleOf setup more schedule
   pub turns : Rises turns_old turns_new
-  pub pass : IsPass world schedule until moved old new
+  pub passes : IsTurnOf world schedule until moved old new
   pub stands : Stands setup more world until schedule new
 
 -- before the first turn
@@ -82,10 +82,8 @@ module _ (world : World) (until idle : ℕ) (setup next_setup : Setup) (first se
     few = omega arith;
     turns = rose_none (idle + 1) turns_first turns_new
         (rose_then idle turns_first turns_old turns_new so_far.turns turn.turns);
-    each = zip_then (HasWaited schedule until idle)
-        (λ before after. (one : Bool) × IsPassed world next until one before after) (HasWaited next until 0)
-        (λ x y z has one. waited_anew world schedule next until idle one.0 x y z has one.1)
-        old mid new so_far.each turn.pass.each;
+    each = zip_then (HasWaited schedule until idle) HasGoneOn (HasWaited next until 0)
+        (λ x y z has on. waited_anew schedule next until idle x y z has on) old mid new so_far.each turn.passes.each;
     below = λ none. absurd (omega arith);
     whole = λ none. absurd (omega arith);
   }
@@ -95,7 +93,7 @@ module _ (world : World) (until idle : ℕ) (setup next_setup : Setup) (first se
       → IsTurn world until false next_setup seen more next mid new turns_old turns_new
       → IsWorking world until (idle + 1) next_setup first more next old new turns_first turns_new
   waited_on few below turn =
-      let none = turn.pass.none refl in
+      let none = turn.passes.none refl in
       record {
         begins = prefix_then first seen more so_far.begins turn.begins;
         stands = turn.stands;

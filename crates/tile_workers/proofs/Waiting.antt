@@ -5,8 +5,8 @@ use Rattle.bundle_model.specs.declared.world.Schedule.{Schedule}
 use Rattle.tile_core.specs.declared.station.Station.{Station}
 use Rattle.tile_core.specs.Station.{station_state, ends_of, tries_of, still_of, KeepsEnds}
 use Rattle.tile_workers.specs.Work.{RoseBy, IsHeldUp}
-use Rattle.tile_workers.specs.inner.Passing.{IsPassed, IsTried}
-use Rattle.tile_workers.proofs.Counts.{rose_more, rose_none}
+use Rattle.tile_workers.specs.inner.Passing.{IsPassed, IsTried, HasGoneOn}
+use Rattle.tile_workers.proofs.Counts.{rose_more, rose_up}
 
 -- a station was tried so many turns in a row, and in vain
 pub record IsWaiting (schedule : Schedule) (idle : ℕ) (before after : Station) : Type 0 where
@@ -57,22 +57,15 @@ waited_more world old new until idle x y z few has (inr not) =
     }
 
 -- a turn in which some station went on: the count begins anew
-pub waited_anew : (world : World) (old new : Schedule) (until idle : ℕ) (moved : Bool) (x y z : Station)
-    → HasWaited old until idle x y → IsPassed world new until moved y z → HasWaited new until 0 x z
-waited_anew world old new until idle moved x y z has (inl tried) =
-    let waits = has.waits tried.0 in
+pub waited_anew : (old new : Schedule) (until idle : ℕ) (x y z : Station)
+    → HasWaited old until idle x y → HasGoneOn y z → HasWaited new until 0 x z
+waited_anew old new until idle x y z has on =
+    let at = on.at in
     record {
-      ends = tried.1.ends ∙ has.ends;
+      ends = on.ends ∙ has.ends;
       waits = λ low. record {
-        tries = rose_none (idle + 1) (tries_of x) (tries_of z) (tried_tries world new moved idle x y z waits.tries tried.1);
+        tries = rose_up idle (tries_of x) (tries_of y) (tries_of z) (has.waits (omega arith)).tries on.tries;
         still = omega arith;
         held_up = λ none. absurd (omega arith);
       };
-    }
-waited_anew world old new until idle moved x y z has (inr not) =
-    let at = ap (λ (station : Station). station.tile.at) not.1 in
-    let past = not.0 in
-    record {
-      ends = ap (λ (station : Station). ends_of (station_state station)) not.1 ∙ has.ends;
-      waits = λ low. absurd (omega arith);
     }

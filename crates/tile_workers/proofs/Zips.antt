@@ -52,3 +52,11 @@ pub all_unmap : {X Y : Type 0} (P : X → Type 0) (f : Y → X) (ys : List Y) �
 all_unmap P f [] all = All-nil (λ y. P (f y))
 all_unmap P f (y ∷ ys) all =
     All-cons (λ y. P (f y)) y ys (All-head P (f y) (map f ys) all) (all_unmap P f ys (All-tail P (f y) (map f ys) all))
+
+-- a fact that each two items have by another one
+pub zip_weaken : {X : Type 0} (R S : X → X → Type 0) → ((x y : X) → R x y → S x y) → (xs ys : List X)
+    → AllZip R xs ys → AllZip S xs ys
+zip_weaken R S h [] [] a = tt
+zip_weaken R S h [] (y ∷ ys) a = absurd a
+zip_weaken R S h (x ∷ xs) [] a = absurd a
+zip_weaken R S h (x ∷ xs) (y ∷ ys) a = (h x y a.0, zip_weaken R S h xs ys a.1)

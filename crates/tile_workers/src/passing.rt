@@ -6,12 +6,16 @@ ghost use Rattle.vep_manager.specs.Setup.{IsSound};
 ghost use Rattle.vep_manager.specs.Legal.{IsLegal};
 ghost use Rattle.tile_core.specs.Fit.{IsUnderway};
 ghost use Rattle.tile_workers.specs.Work.{IsScheduleOf, Rises};
-ghost use Rattle.tile_workers.specs.inner.Passing.{is_below, IsTried, IsPassed, IsPass, Stands};
+ghost use Rattle.tile_workers.specs.inner.Passing.{is_below, IsTried, IsPassed, IsPass, HaveGoneOn, IsTurnOf, Stands};
 
 use crate::feed::Feed;
 use crate::gate::{Gate, Who};
 use bundle_model::{Schedule, World};
 use tile_core::{Station, Turn};
+
+// How many times a worker comes to its stations again, at most, before it asks for the schedule anew: as often
+// as a link's ring has places.
+const MORE_PASSES: u64 = 64;
 
 // Whether some tile is below a slot.
 pub(crate) fn any_below(stations: &[Station], until: u64) -> bool
@@ -77,7 +81,31 @@ fn pass_all<G: Gate>(
     moved
 }
 
-// Asks the feed for the schedule, and comes to each station once. Answers whether one of them went on.
+// Comes to each station again and again without asking for the schedule anew, as long as one of them goes on.
+fn go_on<F: Feed, G: Gate>(
+    stations: &mut [Station],
+    world: &World,
+    schedule: &Schedule,
+    feed: &F,
+    gate: &G,
+    until: u64,
+)
+    requires sound { IsSound (F.setup feed.now) }
+    requires world { world.now ≡ (F.setup feed.now).world }
+    requires whole { IsScheduleOf (F.setup feed.now) (F.seen feed.now) schedule.now }
+    requires stands { Stands (F.setup feed.now) (F.seen feed.now) world.now until schedule.now stations.old }
+    ensures gone { HaveGoneOn until stations.old stations.new }
+    ensures stands { Stands (F.setup feed.now) (F.seen feed.now) world.now until schedule.now stations.new }
+{
+    for _ in 0..MORE_PASSES {
+        if !pass_all(stations, world, schedule, gate, until) {
+            return;
+        }
+    }
+}
+
+// Asks the feed for the schedule, and comes to each station, again where one of them went on. Answers whether
+// one did.
 pub(crate) fn take_turn<F: Feed, G: Gate>(
     stations: &mut [Station],
     world: &World,
@@ -96,9 +124,13 @@ pub(crate) fn take_turn<F: Feed, G: Gate>(
     ensures room { vec_capacity schedule.new.grants ≡ vec_capacity schedule.old.grants }
     ensures whole { IsScheduleOf (F.setup feed.new) (F.seen feed.new) schedule.new }
     ensures turns { Rises (F.turns feed.old) (F.turns feed.new) }
-    ensures pass { IsPass world.now schedule.new until result stations.old stations.new }
+    ensures turn { IsTurnOf world.now schedule.new until result stations.old stations.new }
     ensures stands { Stands (F.setup feed.new) (F.seen feed.new) world.now until schedule.new stations.new }
 {
     feed.refresh(schedule);
-    pass_all(stations, world, schedule, gate, until)
+    let moved = pass_all(stations, world, schedule, gate, until);
+    if moved {
+        go_on(stations, world, schedule, feed, gate, until);
+    }
+    moved
 }

@@ -4,9 +4,9 @@
 //! `specs/Loads` names the load commands of a run, `specs/Setup` says what a sound setup is,
 //! `specs/History` what a history means (grants and horizon), `specs/Replies` what each command is
 //! answered, `specs/Legal` which histories are legal, complete and in rounds, `specs/Granted` what is true of
-//! the grants of a legal history, `specs/Extended` what a longer history keeps of a shorter one, and
-//! `specs/Manager` what contracts see of a manager. `specs/inner` has what only clauses of private
-//! functions cite.
+//! the grants of a legal history, `specs/Extended` what a longer history keeps of a shorter one, `specs/Manager`
+//! what contracts see of a manager and `specs/Owners` what they see of its index of owners. `specs/inner` has
+//! what only clauses of private functions cite.
 #![tactic(auto)]
 
 /// What each bundle of a catalog holds.

@@ -5,7 +5,7 @@ ghost use Rattle.std.specs.Prelude.{◌≡◌, length, IfOk};
 ghost use Rattle.bundle_model.specs.World.{IsSoundCatalog};
 ghost use Rattle.bundle_model.specs.WellFormed.{IsWellFormed};
 
-use super::{FIRST, SECOND, fed, granted, world_with};
+use super::fixture::{FIRST, SECOND, fed, granted, world_with};
 use crate::tile::Tile;
 use bundle_model::{Bundle, RawBundle, RawChannel, RawPair, RawPart, World, check};
 use platform_model::{Platform, RawLink, RawPlatform};

@@ -7,8 +7,8 @@ ghost use Rattle.bundle_model.specs.World.{IsSoundCatalog, IsSoundWorld, AreOfLo
 ghost use Rattle.soc_base.specs.declared.limits.TheConstants.{LAST_CYCLE};
 ghost use Rattle.tile_core.specs.Fit.{IsUnderway};
 
+use super::fixture::{FIRST, SECOND, bundle, granted, schedule, world_with};
 use super::network::{check_port, joined};
-use super::{FIRST, SECOND, bundle, granted, schedule, world_with};
 use crate::making::build;
 use crate::station::Station;
 use crate::turn::{Lack, Turn};

@@ -51,8 +51,28 @@ ArePassed world schedule until old new =
     AllZip (λ before after. (moved : Bool) × IsPassed world schedule until moved before after) old new
 
 -- a pass over stations: where one of them went on, fewer slots are left, and else none did
-pub record IsPass (world : World) (schedule : Schedule) (until : ℕ) (moved : Bool) (old new : List Station) : Type 0 where
+pub record IsPass (world : World) (schedule : Schedule) (until : ℕ) (moved : Bool)
+    (old new : List Station) : Type 0 where
   pub each : ArePassed world schedule until old new
+  pub no_more : slots_left until new ≤ slots_left until old
+  pub fewer : moved ≡ true → slots_left until new < slots_left until old
+  pub none : moved ≡ false → AllZip (IsPassed world schedule until false) old new
+
+-- a station that was come to, once or more: it is the same one, and neither its slot nor its count of tries fell
+pub record HasGoneOn (before after : Station) : Type 0 where
+  pub ends : KeepsEnds (station_state before) (station_state after)
+  pub at : before.tile.at ≤ after.tile.at
+  pub tries : tries_of before ≤ tries_of after
+
+-- passes over stations, as long as one of them went on: no more slots are left
+pub record HaveGoneOn (until : ℕ) (old new : List Station) : Type 0 where
+  pub each : AllZip HasGoneOn old new
+  pub no_more : slots_left until new ≤ slots_left until old
+
+-- the passes of a turn: the first, and more where one went on in it
+pub record IsTurnOf (world : World) (schedule : Schedule) (until : ℕ) (moved : Bool)
+    (old new : List Station) : Type 0 where
+  pub each : AllZip HasGoneOn old new
   pub no_more : slots_left until new ≤ slots_left until old
   pub fewer : moved ≡ true → slots_left until new < slots_left until old
   pub none : moved ≡ false → AllZip (IsPassed world schedule until false) old new

@@ -140,7 +140,8 @@ fn a_group_that_is_where_it_was_to_go_asks_for_nothing(rt: HostRuntime) -> Resul
     Ok(())
 }
 
-// In each turn the first tile does a slot, and then the second, for which the flit of the slot before waits.
+// In each pass the first tile does a slot, and then the second, for which the flit of the slot before waits. The
+// first turn has 65 passes, and the second the rest.
 #[test]
 fn both_tiles_come_to_the_budget(rt: HostRuntime) -> Result<(), Fail> {
     let alloc = rt.alloc();
@@ -148,7 +149,7 @@ fn both_tiles_come_to_the_budget(rt: HostRuntime) -> Result<(), Fail> {
     let seen = worked(alloc, &setup, true, Tiles::Both, BUDGET)?;
     let expected = Seen {
         end: WorkEnd::Done,
-        asked: 100,
+        asked: 2,
         slots: 200,
         first: 100,
         second: Some(100),
@@ -158,7 +159,7 @@ fn both_tiles_come_to_the_budget(rt: HostRuntime) -> Result<(), Fail> {
 }
 
 // Nobody reads the ring: it takes the flits of the slots 0 to 63, and that of slot 64 waits to be pushed. So
-// there are 65 turns with a slot, and after them as many in vain as a worker takes.
+// there is a turn with 65 slots, and after it as many turns in vain as a worker takes.
 #[test]
 fn a_tile_alone_goes_as_far_as_its_ring(rt: HostRuntime) -> Result<(), Fail> {
     let alloc = rt.alloc();
@@ -166,7 +167,7 @@ fn a_tile_alone_goes_as_far_as_its_ring(rt: HostRuntime) -> Result<(), Fail> {
     let seen = worked(alloc, &setup, true, Tiles::First, BUDGET)?;
     let expected = Seen {
         end: WorkEnd::Idle,
-        asked: 1_048_641,
+        asked: 1_048_577,
         slots: 65,
         first: 65,
         second: None,

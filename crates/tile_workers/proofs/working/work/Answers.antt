@@ -1,7 +1,7 @@
 use Rattle.std.proofs.Common.{◌≡◌, ◌++◌, length, take, drop, true, false, refl, sym, ap, subst, ◌∙◌, arith}
 use Rattle.std.proofs.lemmas.Grind.{common_steps}
 use Rattle.tile_core.specs.Station.{station_state, HasRun}
-use Rattle.tile_workers.specs.inner.Passing.{is_below, IsPass}
+use Rattle.tile_workers.specs.inner.Passing.{is_below, IsTurnOf}
 use Rattle.tile_workers.proofs.Zips.{all_unmap}
 use Rattle.tile_workers.proofs.Standing.{by_all_seen}
 use Rattle.tile_workers.proofs.Turning.{first_turn, went_on, waited_on, ends_stay, done_none, gives_up}
@@ -57,8 +57,8 @@ loop-idle-preserved-then-take_turn g c =
             begins = told.begins;
             whole = told.whole;
             turns = told.turns;
-            pass = subst (λ xs. IsPass c.args.world.now c.take_turn.new.schedule c.args.until true xs new) c.deref_mut.ensures.value
-                c.if-take_turn.ensures.pass;
+            passes = subst (λ xs. IsTurnOf c.args.world.now c.take_turn.new.schedule c.args.until true xs new) c.deref_mut.ensures.value
+                c.if-take_turn.ensures.turn;
             stands = told.stands;
           }));
     }
@@ -85,8 +85,8 @@ loop-idle-preserved g c =
             begins = told.begins;
             whole = told.whole;
             turns = told.turns;
-            pass = subst (λ xs. IsPass c.args.world.now c.take_turn.new.schedule c.args.until false xs new) c.deref_mut.ensures.value
-                c.if-take_turn.ensures.pass;
+            passes = subst (λ xs. IsTurnOf c.args.world.now c.take_turn.new.schedule c.args.until false xs new) c.deref_mut.ensures.value
+                c.if-take_turn.ensures.turn;
             stands = told.stands;
           }));
     }
