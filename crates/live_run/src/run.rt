@@ -57,9 +57,9 @@ fn committed<'s, R: Threads + Wait + Sync, G: Gate + Sync>(
 /// Runs a setup with a thread for each session and for each of so many workers, or of as many as the platform
 /// has tiles: each session commits the commands of its script, in whatever order the threads come to the
 /// manager's lock, while the workers take their tiles on by the grants that stand in the history, tile `i` the
-/// one of number `i` modulo their count. All come to the gate after each command and each slot. The caller
-/// commits what the threads leave, and then brings all tiles to the slot of the budget. The refusal is want of
-/// memory, which is taken before any thread is started.
+/// one of number `i` modulo their count. The threads come to the gate after each command and each slot. The
+/// caller commits what they leave, coming to the gate too, and then brings all tiles to the slot of the budget,
+/// without it. The refusal is want of memory, which is taken before any thread is started.
 pub fn live<R: Threads + Wait + Sync, G: Gate + Sync>(
     rt: &R,
     alloc: Global,

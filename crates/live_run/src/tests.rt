@@ -1,5 +1,7 @@
 //! Runs by threads, and what is the same in each of their orders.
 
+/// A gate that counts the commands that come to it.
+mod counting;
 /// The setup of a run.
 mod fixture;
 /// Gates that hold workers up, or see how far they come.

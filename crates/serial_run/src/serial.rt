@@ -50,7 +50,7 @@ pub(crate) fn commit_all(manager: &mut Manager<'_>, sessions: u8)
     ensures rounds { IsRoundRobin manager.new.setup manager.new.history }
     ensures apart { IsApart manager.new.setup.world (grants_of manager.new.setup manager.new.history) }
 {
-    // A session has no more commands than a run, so as many rounds are enough.
+    // All sessions together have no more commands than that, so as many rounds are enough.
     for _round in 0..MOST_COMMANDS {
         if !round(manager, sessions) {
             return;

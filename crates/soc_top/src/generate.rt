@@ -65,8 +65,8 @@ fn workload_words(alloc: Global, texts: &Texts) -> Result<RunWords, NoMemory>
     })
 }
 
-// Reads the texts of a workload as the files of a run are read. Memory never fails a read, and no draw makes a
-// text that breaks a rule: a fault of ours would end as want of memory here. That none does isn't proved.
+// Reads the texts of a workload as the files of a run are read. A read of files in memory never fails. That no
+// text of a workload breaks a rule isn't proved: one that did, a fault of ours, would end as want of memory.
 fn read_texts(alloc: Global, texts: &Texts) -> Result<Setup, NoMemory>
     requires { IsRunInForm (workload_words texts.now) }
     ensures read { IfOk result (GivesSetup (Some (files_of texts.now)) (workload_words texts.now)) }

@@ -3,9 +3,9 @@
 //!
 //! `command_words` says what words ask for, `specs/Wants` what one file is read as and why it is refused,
 //! `specs/Order` in which order files are read and which of them decides, `specs/Answers` how a request
-//! ends, and `specs/Faults` the lines and statuses of refusals. `specs/Alone`, `specs/Run`, `specs/Check`
-//! and `specs/Generate` say for their command which files are read and what is written. `specs/inner` has what only clauses of
-//! private functions cite.
+//! ends, `specs/Exchange` what a call tells of files and sink, and `specs/Faults` the lines and statuses of
+//! refusals. `specs/Alone`, `specs/Run`, `specs/Check` and `specs/Generate` say for their command which files are
+//! read and what is written. `specs/inner` has what only clauses of private functions cite.
 #![tactic(auto)]
 
 /// The command `alone`.

@@ -73,7 +73,7 @@ impl Station {
         self.tries
     }
 
-    /// Answers how many tries in a row, up to the last, came to nothing, up to the greatest u64.
+    /// Answers how many of the latest tries in a row came to nothing, up to the greatest u64: 0 after a slot.
     pub fn still(&self) -> u64
         ensures { result ≡ self.now.still }
     {

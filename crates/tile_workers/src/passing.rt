@@ -53,7 +53,7 @@ fn try_one(station: &mut Station, world: &World, schedule: &Schedule) -> bool
     requires { IsUnderway world.now schedule.now station.old.tile }
     ensures { IsTried world.now schedule.now result station.old station.new }
 {
-    // What is known of a count is its range, once it was read.
+    // For the proof alone: that the count was read tells that it fits in a u64.
     let _tries = station.tries();
     match station.try_slot(world, schedule) {
         Turn::Moved => true,

@@ -20,9 +20,9 @@ use crossbeam_utils::Backoff;
 pub const MOST_IDLE_TURNS: u64 = 1_048_576;
 
 /// Takes the tiles of a group to the slot `until`, as far as they can go. In each turn it asks the feed for the
-/// schedule, and then tries the next slot of each station below `until` once; after a turn in which one moved it
-/// tries them again by the same schedule, as long as one moves and up to 64 times. After each slot that was done
-/// it comes to the gate. Done exactly where every tile is at `until` then. It gives up, Idle, only after
+/// schedule, and then tries the next slot of each station below `until` once; where one moved it comes to all of
+/// them again by the same schedule, as long as one moves and up to 64 times. After each slot that was done it
+/// comes to the gate. Done exactly where every tile is at `until` then. It gives up, Idle, only after
 /// `MOST_IDLE_TURNS` turns in a row in which no station moved. Returns where the calls of its feed and its
 /// gate return. Takes no memory.
 pub fn work<F: Feed, G: Gate>(

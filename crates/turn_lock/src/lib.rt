@@ -2,8 +2,8 @@
 //! this one history.
 //!
 //! `specs/Seen` says what callers see of a lock and of a pass. `specs/Rule` says what holds between any two
-//! steps of any threads, and `specs/Steps` what each kind of step changes. `specs/Hands` has helpers of the
-//! proofs.
+//! steps of any threads, and `specs/Steps` what each kind of step changes. `specs/Hands` has what only clauses
+//! of private functions and invariants cite.
 #![tactic(auto)]
 
 /// What a lock keeps.

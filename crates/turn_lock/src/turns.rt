@@ -39,7 +39,7 @@ impl<V: Kept> Model for Turns<V> {
 #[derive(Drop)]
 pub struct Pass<V: Kept> {
     hand: Hand<V>,
-    /// How many entries the value had when the pass last entered.
+    /// How many entries the value had when the pass last entered; 0 before its first turn.
     count: u64,
 }
 

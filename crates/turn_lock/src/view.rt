@@ -21,7 +21,7 @@ pub struct View<B, E> {
     pub start: u64,
     /// The entries that were seen.
     pub seen: LinkedList<E>,
-    /// The shorter list of the last join.
+    /// The shorter list of the last join; at first the entries of the value.
     pub met: LinkedList<E>,
     /// How many entries were added.
     pub mine: u64,

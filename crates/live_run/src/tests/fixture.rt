@@ -22,6 +22,8 @@ pub enum Tiles {
     One,
     /// Two such tiles, joined both ways.
     Joined,
+    /// 32 such tiles, each joined to the next one and the last to the first.
+    Ring,
 }
 
 /// A command, which states a cycle.
@@ -84,10 +86,26 @@ fn joined(alloc: Global) -> Result<Platform, Fail> {
     Ok(Platform::check(alloc, &raw)?)
 }
 
+// Output 0 of each tile leads to input 0 of the next.
+fn ring(alloc: Global) -> Result<Platform, Fail> {
+    let mut raw = RawPlatform::plain(alloc);
+    raw.tiles = 32;
+    for tile in 0..32i64 {
+        raw.links.push(RawLink {
+            from: tile,
+            out: 0,
+            to: (tile + 1) % 32,
+            input: 0,
+        })?;
+    }
+    Ok(Platform::check(alloc, &raw)?)
+}
+
 fn platform(alloc: Global, tiles: Tiles) -> Result<Platform, Fail> {
     match tiles {
         Tiles::One => Ok(Platform::plain(alloc)?),
         Tiles::Joined => joined(alloc),
+        Tiles::Ring => ring(alloc),
     }
 }
 

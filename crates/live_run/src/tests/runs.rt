@@ -2,6 +2,7 @@
 
 ghost use Rattle.vep_manager.specs.Setup.{IsSound};
 
+use super::counting::{Counting, number};
 use super::fixture::{Ask, Tiles, setup};
 use super::holding::Holding;
 use crate::live;
@@ -69,6 +70,15 @@ fn place(history: &[Entry], session: u8, index: u16) -> Option<usize> {
         .position(|entry| entry.session == session && entry.index == index)
 }
 
+// How many commands a history has, and the sum of their numbers: what a gate counts to which each came once.
+fn counted(history: &[Entry]) -> (u64, u64) {
+    let mut sum = 0u64;
+    for entry in history {
+        sum = sum.wrapping_add(number(entry.session, entry.index));
+    }
+    (history.len() as u64, sum)
+}
+
 // The counts of workers that runs are tried with: of one tile there is one all the same.
 const WORKERS: [u8; 3] = [1, 2, 255];
 
@@ -82,9 +92,11 @@ fn commits_every_command_once(rt: HostRuntime) -> Result<(), Fail> {
     ];
     let setup = setup(alloc, Tiles::Joined, &table, 42)?;
     for workers in WORKERS {
-        let end = live(&rt, alloc, &setup, workers, &Free)?;
+        let gate = Counting::new();
+        let end = live(&rt, alloc, &setup, workers, &gate)?;
         check_end(&rt, alloc, &setup, &end)?;
         assert_eq!(rt; end.history.len(), 7);
+        assert_eq!(rt; gate.counted(), counted(end.history.as_slice()));
         // Whichever load comes first holds the partition slot; the other one is refused, or comes after the
         // stop.
         assert!(rt; granted(end.history.as_slice()) >= 1);
@@ -107,7 +119,8 @@ fn a_session_that_is_held_comes_after_another(rt: HostRuntime) -> Result<(), Fai
     let history = end.history.as_slice();
     let other = place(history, 3, 3);
     let held = place(history, 1, 2);
-    assert!(rt; gate.gave_up() || other < held);
+    assert!(rt; !gate.gave_up());
+    assert!(rt; other < held);
     Ok(())
 }
 

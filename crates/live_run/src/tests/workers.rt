@@ -104,3 +104,20 @@ fn workers_that_are_held_leave_the_same_logs(rt: HostRuntime) -> Result<(), Fail
     }
     Ok(())
 }
+
+// One session keeps the horizon low until its last command; a tile for each worker goes on between.
+#[test]
+fn thirty_two_workers_on_as_many_tiles(rt: HostRuntime) -> Result<(), Fail> {
+    let alloc = rt.alloc();
+    let table: [&[Ask]; 2] = [
+        &[Ask::Load(0)],
+        &[Ask::Until(8), Ask::Until(80), Ask::Until(160)],
+    ];
+    let setup = setup(alloc, Tiles::Ring, &table, 42)?;
+    for workers in [1u8, 32] {
+        let end = live(&rt, alloc, &setup, workers, &Free)?;
+        check_end(&rt, alloc, &setup, &end)?;
+        check_log(&rt, &end, 72);
+    }
+    Ok(())
+}

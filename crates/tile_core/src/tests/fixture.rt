@@ -215,7 +215,6 @@ pub struct FedTile {
 }
 
 /// Follows a tile with both loads from its beginning over so many slots, with words on input 1 from a slot on.
-#[tactic(auto, using(crate::proofs::FreshMade::fresh_made, crate::proofs::Fresh::fresh_fits, crate::proofs::Fresh::fresh_at))]
 pub fn fed<A: Abort>(
     rt: &A,
     alloc: Global,
