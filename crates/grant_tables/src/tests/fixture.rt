@@ -17,17 +17,20 @@ use std::alloc::Global;
 use std::process::Abort;
 use std::test::Fail;
 
+/// The label of the first load.
 pub const FIRST: Label = Label {
     session: 1,
     load: 1,
 };
 
+/// The label of the second load.
 pub const SECOND: Label = Label {
     session: 1,
     load: 2,
 };
 
-// Links there (0, 1) and back (2, 3), and one past the middle (4).
+/// Links there (0, 1) and back (2, 3), and one past the middle (4): each with its tile and output, and the tile
+/// and input that it enters.
 pub const LINKS: [[i64; 4]; 5] = [
     [0, 0, 1, 0],
     [1, 0, 2, 0],
@@ -36,29 +39,33 @@ pub const LINKS: [[i64; 4]; 5] = [
     [0, 1, 2, 1],
 ];
 
-// A pair between ports of one number of tiles 0 and 2, on each of which the bundle has a part in the
-// partition slot of that number. Tile 1 is passed by, without a part.
+/// A pair between ports of one number of tiles 0 and 2, on each of which the bundle has a part in the
+/// partition slot of that number. Tile 1 is passed by, without a part.
 #[derive(Clone, Copy)]
 pub struct PairRow<'a> {
+    /// The number of the ports, and of the partition slots.
     pub port: i64,
+    /// The path and the injection slots from tile 0 to tile 2.
     pub there: (&'a [i64], &'a [i64]),
+    /// The same from tile 2 to tile 0.
     pub back: (&'a [i64], &'a [i64]),
 }
 
-// Injects twice there, the second time past the last row, and once back.
+/// Injects twice there, the second time past the last row, and once back.
 pub const LONG: PairRow<'static> = PairRow {
     port: 0,
     there: (&[0, 1], &[1, 6]),
     back: (&[2, 3], &[5]),
 };
 
-// Shares nothing with it.
+/// Shares nothing with it.
 pub const SHORT: PairRow<'static> = PairRow {
     port: 1,
     there: (&[4], &[3]),
     back: (&[2, 3], &[0]),
 };
 
+/// A list as items.
 pub fn items(alloc: Global, list: &[i64]) -> Result<Items<i64>, Fail> {
     let mut items = Items::new(alloc);
     for item in list {
@@ -67,6 +74,7 @@ pub fn items(alloc: Global, list: &[i64]) -> Result<Items<i64>, Fail> {
     Ok(items)
 }
 
+/// A channel of a path and injection slots.
 pub fn channel(alloc: Global, row: (&[i64], &[i64])) -> Result<RawChannel, Fail> {
     Ok(RawChannel {
         path: items(alloc, row.0)?,
@@ -74,6 +82,7 @@ pub fn channel(alloc: Global, row: (&[i64], &[i64])) -> Result<RawChannel, Fail>
     })
 }
 
+/// A part of one instruction on a tile, with the partition slot and the port of one number.
 pub fn part(alloc: Global, tile: i64, port: i64) -> Result<RawPart, Fail> {
     Ok(RawPart {
         tile,
@@ -88,6 +97,7 @@ pub fn part(alloc: Global, tile: i64, port: i64) -> Result<RawPart, Fail> {
     })
 }
 
+/// The bundle of a pair, as a bundle file of the catalog.
 pub fn named(alloc: Global, platform: &Platform, row: PairRow) -> Result<Named, Fail>
     ensures { IfOk result (λ named. IfOk named.judged (IsWellFormed platform.now)) }
 {
@@ -110,6 +120,7 @@ pub fn named(alloc: Global, platform: &Platform, row: PairRow) -> Result<Named, 
     })
 }
 
+/// A platform of three tiles in a line, with tables of so many slots.
 pub fn platform(alloc: Global, table_slots: i64) -> Result<Platform, Fail> {
     let mut links = Items::new(alloc);
     for [from, out, to, input] in &LINKS {
@@ -129,7 +140,7 @@ pub fn platform(alloc: Global, table_slots: i64) -> Result<Platform, Fail> {
     Ok(Platform::check(alloc, &raw)?)
 }
 
-// A platform with tables of so many slots, and two bundles of one pair each.
+/// A platform with tables of so many slots, and two bundles of one pair each.
 pub fn world(
     alloc: Global,
     table_slots: i64,
@@ -145,7 +156,7 @@ pub fn world(
     Ok(World { platform, catalog })
 }
 
-// What a grant holds.
+/// What a grant holds.
 pub fn held<A: Abort>(
     rt: &A,
     alloc: Global,
@@ -162,18 +173,21 @@ pub fn held<A: Abort>(
     Ok(resources(alloc, &world.platform, bundle)?)
 }
 
+/// Whether a resource shares something with one of those that are held.
 pub fn meets_some(held: &[Resource], resource: &Resource) -> bool
     ensures { result ≡ list_any (λ one. meets_of one resource.now) held.now }
 {
     held.iter().any(|one| meets(one, resource))
 }
 
+/// Whether two lists of resources share something.
 pub fn do_meet(one: &[Resource], other: &[Resource]) -> bool
     ensures { result ≡ list_any (λ resource. list_any (λ held. meets_of held resource) one.now) other.now }
 {
     other.iter().any(|resource| meets_some(one, resource))
 }
 
+/// Whether a grant ends before another begins.
 pub fn ends_before(one: &Grant, other: &Grant) -> bool
     ensures { IsTrue result → EndsBefore one.now other.now }
 {
