@@ -1,5 +1,5 @@
 -- The parts of grants that stand in one slot share nothing.
-use Rattle.std.proofs.Common.{◌≡◌, ◌≢◌, ℕ, ◌<◌, ◌==◌, true, List, slice_get, find, Some, Result, Ok, Err, Contains, IfOk, refl, sym, ap, ap₂, ◌∙◌, subst, inl, inr}
+use Rattle.std.proofs.Common.{◌≡◌, ◌≢◌, ℕ, ◌==◌, true, List, slice_get, find, Some, Result, Ok, Err, Contains, IfOk, refl, sym, ap, ap₂, ◌∙◌, subst, inl, inr}
 use Rattle.std.proofs.lemmas.Bool.{cases_order, and_parts, and_from, eqb-true, eq-eqb}
 use Rattle.std.proofs.lemmas.Option.{none-some, same_Some, option_and_then_some}
 use Rattle.soc_base.specs.declared.label.Label.{Label}
@@ -11,7 +11,7 @@ use Rattle.bundle_model.specs.declared.world.World.{World}
 use Rattle.bundle_model.specs.declared.world.LoadName.{LoadName}
 use Rattle.bundle_model.specs.declared.world.Grant.{Grant}
 use Rattle.bundle_model.specs.WellFormed.{IsWellFormedPart, IsWellFormed}
-use Rattle.bundle_model.specs.Grants.{bundle_at, kept_bundle, do_meet, stands_at, IsApart}
+use Rattle.bundle_model.specs.Grants.{bundle_at, kept_bundle, stands_at, IsApart}
 use Rattle.bundle_model.specs.World.{same_label, part_on, IsSoundCatalog, AreOfLoads}
 use Rattle.bundle_model.proofs.Keyed.{AreKeyed, at_place, contained_place, found_place}
 use Rattle.bundle_model.proofs.Present.{present_now, present_unmet}
@@ -66,22 +66,28 @@ grant_bundle loads grants at k grant load keyed of there load_there same =
     let load_is : load ≡ named = same_Some load named (sym load_there ∙ ap (slice_get loads) one ∙ contained.1) in
     sym (ap (λ (l : LoadName). l.bundle) load_is)
 
--- the resources of grants that stand in one slot don't meet
-pub unmet : (world : World) (grants : List Grant) (slot i j : ℕ) (one other : Grant) → IsApart world grants → i < j → slice_get grants i ≡ Some one → slice_get grants j ≡ Some other → stands_at slot one ≡ true → stands_at slot other ≡ true → do_meet world one other ≡ true → ⊥
-unmet world grants slot i j one other apart before at_i at_j one_stands other_stands meet =
-    present_unmet world grants slot i j one other apart before (present_now grants slot i one at_i one_stands) (present_now grants slot j other at_j other_stands) meet
-
 disjoint_sym : (one other : Part) → AreDisjoint one other → AreDisjoint other one
 disjoint_sym one other apart = record {
   slots = λ slot in_other in_one. apart.slots slot in_one in_other;
   regions = elim apart.regions [ inl before ↦ inr before | inr behind ↦ inl behind ];
 }
 
+-- a grant that stands at a slot, and a part of its bundle
+pub record StandingPart (world : World) (grants : List Grant) (slot : ℕ) (part : Part) : Type 0 where
+  pub index : ℕ
+  pub grant : Grant
+  pub there : slice_get grants index ≡ Some grant
+  pub stands : stands_at slot grant ≡ true
+  pub has : HasPart world grant part
+
 -- THE LAW OF HOLDERS, for parts: where two grants stand in one slot, their parts of one tile share no
 -- partition slot and no byte
-pub standing_disjoint : (world : World) (grants : List Grant) (slot i j : ℕ) (one other : Grant) (one_part other_part : Part) → IsApart world grants → i ≢ j → slice_get grants i ≡ Some one → slice_get grants j ≡ Some other → stands_at slot one ≡ true → stands_at slot other ≡ true → HasPart world one one_part → HasPart world other other_part → one_part.tile ≡ other_part.tile → AreDisjoint one_part other_part
-standing_disjoint world grants slot i j one other one_part other_part apart differ at_i at_j one_stands other_stands a b tile = elim (cases_order i j) [
-  | inl same ↦ absurd (differ same)
-  | inr (inl before) ↦ parts_disjoint world one other one_part other_part a b tile (unmet world grants slot i j one other apart before at_i at_j one_stands other_stands)
-  | inr (inr behind) ↦ disjoint_sym other_part one_part (parts_disjoint world other one other_part one_part b a (sym tile) (unmet world grants slot j i other one apart behind at_j at_i other_stands one_stands))
-]
+pub standing_disjoint : (world : World) (grants : List Grant) (slot : ℕ) (one other : Part) → IsApart world grants → (x : StandingPart world grants slot one) (y : StandingPart world grants slot other) → x.index ≢ y.index → one.tile ≡ other.tile → AreDisjoint one other
+standing_disjoint world grants slot one other apart x y differ tile =
+    let first = present_now grants slot x.index x.grant x.there x.stands in
+    let second = present_now grants slot y.index y.grant y.there y.stands in
+    elim (cases_order x.index y.index) [
+      | inl same ↦ absurd (differ same)
+      | inr (inl before) ↦ parts_disjoint world x.grant y.grant one other x.has y.has tile (present_unmet world grants slot x.index y.index x.grant y.grant apart before first second)
+      | inr (inr behind) ↦ disjoint_sym other one (parts_disjoint world y.grant x.grant other one y.has x.has (sym tile) (present_unmet world grants slot y.index x.index y.grant x.grant apart behind second first))
+    ]

@@ -69,20 +69,24 @@ meets_itself (Inject tile slot) = or_left _ _ (two_same tile slot)
 meets_itself (LinkSlot link slot) = or_left _ _ (two_same link slot)
 meets_itself (Deliver tile slot) = or_left _ _ (two_same tile slot)
 
-they_meet : (world : World) (one other : Grant) (k m : ℕ) (r s : Resource) → slice_get (grant_resources world one) k ≡ Some r → slice_get (grant_resources world other) m ≡ Some s → meets_of r s ≡ true → do_meet world one other ≡ true
-they_meet world one other k m r s at_k at_m meet =
-    any_at (λ resource. list_any (λ held. meets_of held resource) (grant_resources world one)) (grant_resources world other) m s at_m
-    (any_at (λ held. meets_of held s) (grant_resources world one) k r at_k meet)
+-- a grant that is present in a slot, and a resource that it holds
+pub record PresentHolder (world : World) (grants : List Grant) (slot : ℕ) (resource : Resource) : Type 0 where
+  pub index : ℕ
+  pub grant : Grant
+  pub present : IsPresent grants slot index grant
+  pub place : ℕ
+  pub held : slice_get (grant_resources world grant) place ≡ Some resource
 
--- grants that are present in one slot and hold resources of which each meets the other are one
-pub one_meets : (world : World) (grants : List Grant) (slot i j k m : ℕ) (one other : Grant) (r s : Resource) → IsApart world grants → IsPresent grants slot i one → IsPresent grants slot j other → slice_get (grant_resources world one) k ≡ Some r → slice_get (grant_resources world other) m ≡ Some s → meets_of r s ≡ true → meets_of s r ≡ true → i ≡ j
-one_meets world grants slot i j k m one other r s apart x y at_k at_m meet met = elim (cases_order i j) [
+-- two that hold one resource meet
+holders_meet : (world : World) (grants : List Grant) (slot : ℕ) (resource : Resource) (x y : PresentHolder world grants slot resource) → do_meet world x.grant y.grant ≡ true
+holders_meet world grants slot resource x y =
+    any_at (λ wanted. list_any (λ held. meets_of held wanted) (grant_resources world x.grant)) (grant_resources world y.grant) y.place resource y.held
+    (any_at (λ held. meets_of held resource) (grant_resources world x.grant) x.place resource x.held (meets_itself resource))
+
+-- so at most one of the grants that are present in a slot holds a resource
+pub one_holder : (world : World) (grants : List Grant) (slot : ℕ) (resource : Resource) → IsApart world grants → (x y : PresentHolder world grants slot resource) → x.index ≡ y.index
+one_holder world grants slot resource apart x y = elim (cases_order x.index y.index) [
   | inl same ↦ same
-  | inr (inl before) ↦ absurd (present_unmet world grants slot i j one other apart before x y (they_meet world one other k m r s at_k at_m meet))
-  | inr (inr behind) ↦ absurd (present_unmet world grants slot j i other one apart behind y x (they_meet world other one m k s r at_m at_k met))
+  | inr (inl before) ↦ absurd (present_unmet world grants slot x.index y.index x.grant y.grant apart before x.present y.present (holders_meet world grants slot resource x y))
+  | inr (inr behind) ↦ absurd (present_unmet world grants slot y.index x.index y.grant x.grant apart behind y.present x.present (holders_meet world grants slot resource y x))
 ]
-
--- so at most one of them holds a resource
-pub one_holder : (world : World) (grants : List Grant) (slot i j k m : ℕ) (one other : Grant) (r : Resource) → IsApart world grants → IsPresent grants slot i one → IsPresent grants slot j other → slice_get (grant_resources world one) k ≡ Some r → slice_get (grant_resources world other) m ≡ Some r → i ≡ j
-one_holder world grants slot i j k m one other r apart x y at_k at_m =
-    one_meets world grants slot i j k m one other r r apart x y at_k at_m (meets_itself r) (meets_itself r)

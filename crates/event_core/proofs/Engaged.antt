@@ -1,5 +1,5 @@
 -- What keeps a core engaged.
-use Rattle.std.proofs.Common.{◌≡◌, ℕ, ◌+◌, ◌*◌, ◌<◌, ◌≤◌, true, List, [], ◌++◌, length, map, append-nil, mul-le-mul_right, get_or, set, slice_get, Option, Some, None, refl, sym, ap, ap₂, subst, ◌∙◌, arith}
+use Rattle.std.proofs.Common.{◌≡◌, ℕ, ◌+◌, ◌*◌, ◌<◌, ◌≤◌, true, List, [], ◌++◌, length, map, vec_capacity, append-nil, mul-le-mul_right, get_or, set, slice_get, Option, Some, None, refl, sym, ap, ap₂, subst, ◌∙◌, arith}
 use Rattle.std.specs.Prelude.{nat_lt, IfSome}
 use Rattle.std.specs.List.{All, list_all, range_with_len}
 use Rattle.std.specs.Option.{option_to_list}
@@ -135,33 +135,50 @@ core_of_parts kept tiles lines = record { history = kept.history; tiles = tiles;
 abbrev pub engaged_of : ManagerState → List TileState → List (Line WordAndCredits) → Engaged
 engaged_of kept tiles lines = record { setup = kept.setup; core = core_of_parts kept tiles lines }
 
-goes_on : (setup : Setup) (core : CoreState TileState WordAndCredits) (grants after : List Grant) (horizon next room room_after session : ℕ) (o : Option Entry) → IsEngaged setup core grants horizon room → o ≡ next_entry setup core.history session → (let history = core.history ++ option_to_list o in IsLegal setup history → after ≡ grants_of setup history → next ≡ horizon_of setup history → room_after ≡ room → (record core { history = history } ≡ happens (hardware_of setup) setup core (Commands session)) × IsEngaged setup (record core { history = history }) after next room_after)
-goes_on setup core grants after horizon next room room_after session o engaged is legal grants_is horizon_is room_is =
-    let same = committed setup core session o is in
-    let on = legal_goes_on setup engaged.sound core.history (core.history ++ option_to_list o) (option_to_list o, refl) legal in
+-- what the commit of a session's next command leaves of a manager: its history has the entry that the session
+-- has next, where there is one, and is legal
+pub record IsCommitted (kept new : ManagerState) (session : ℕ) (entry : Option Entry) : Type 0 where
+  pub entry_is : entry ≡ next_entry kept.setup kept.history session
+  pub appended : new ≡ record kept { history = kept.history ++ option_to_list entry }
+  pub legal : IsLegal new.setup new.history
+
+-- a schedule that was brought up to a history: its grants and its horizon, in the room of the one before
+pub record IsBroughtUp (setup : Setup) (history : List Entry) (before new : Schedule) : Type 0 where
+  pub grants_are : new.grants.items ≡ grants_of setup history
+  pub horizon_is : new.horizon ≡ horizon_of setup history
+  pub room_is : vec_capacity new.grants ≡ vec_capacity before.grants
+
+-- a core is engaged with a schedule
+abbrev pub IsEngagedWith : Setup → CoreState TileState WordAndCredits → Schedule → Type 0
+IsEngagedWith setup core schedule = IsEngaged setup core schedule.grants.items schedule.horizon (vec_capacity schedule.grants)
+
+goes_on : (setup : Setup) (core : CoreState TileState WordAndCredits) (before new : Schedule) (session : ℕ) (entry : Option Entry) → IsEngagedWith setup core before → entry ≡ next_entry setup core.history session → (let history = core.history ++ option_to_list entry in IsLegal setup history → IsBroughtUp setup history before new → (record core { history = history } ≡ happens (hardware_of setup) setup core (Commands session)) × IsEngagedWith setup (record core { history = history }) new)
+goes_on setup core before new session entry engaged is legal brought =
+    let same = committed setup core session entry is in
+    let on = legal_goes_on setup engaged.sound core.history (core.history ++ option_to_list entry) (option_to_list entry, refl) legal in
     let order = engaged.order in (
       same,
       record {
         sound = engaged.sound;
         order = subst (IsInOrder TileState WordAndCredits (hardware_of setup) setup) (sym same) (keeps_order setup core (Commands session) engaged.sound engaged.order);
-        grants_known = grants_is;
-        horizon_known = horizon_is;
+        grants_known = brought.grants_are;
+        horizon_known = brought.horizon_is;
         made = engaged.made;
         fits = λ k d below.
             let tile = get_or core.tiles k d in
             let low = order.below k tile (slice_get-get_or core.tiles k d below) in
-            fits_go_on setup.world (horizon_of setup core.history) (grants_of setup core.history) (grants_of setup (core.history ++ option_to_list o)) tile low on.grants (engaged.fits k d below);
-        enough = subst (λ (n : ℕ). length setup.loads ≤ n) (sym room_is) engaged.enough;
+            fits_go_on setup.world (horizon_of setup core.history) (grants_of setup core.history) (grants_of setup (core.history ++ option_to_list entry)) tile low on.grants (engaged.fits k d below);
+        enough = subst (λ (n : ℕ). length setup.loads ≤ n) (sym brought.room_is) engaged.enough;
       },
     )
 
 -- a session's next command is the event, and leaves the core engaged
-pub command_on : (kept new : ManagerState) (tiles : List TileState) (lines : List (Line WordAndCredits)) (grants after : List Grant) (horizon next room room_after session : ℕ) (o : Option Entry) → IsEngaged kept.setup (core_of_parts kept tiles lines) grants horizon room → o ≡ next_entry kept.setup kept.history session → new ≡ record kept { history = kept.history ++ option_to_list o } → IsLegal new.setup new.history → after ≡ grants_of new.setup new.history → next ≡ horizon_of new.setup new.history → room_after ≡ room → (engaged_of new tiles lines ≡ after_event (engaged_of kept tiles lines) (Command session)) × IsEngaged new.setup (core_of_parts new tiles lines) after next room_after
-command_on kept new tiles lines grants after horizon next room room_after session o engaged is grown =
-    let P : ManagerState → Type 0 = λ n. IsLegal n.setup n.history → after ≡ grants_of n.setup n.history → next ≡ horizon_of n.setup n.history → room_after ≡ room → (engaged_of n tiles lines ≡ after_event (engaged_of kept tiles lines) (Command session)) × IsEngaged n.setup (core_of_parts n tiles lines) after next room_after in
-    subst P (sym grown) (λ legal grants_is horizon_is room_is.
-    let on = goes_on kept.setup (core_of_parts kept tiles lines) grants after horizon next room room_after session o engaged is legal grants_is horizon_is room_is in
-    (ap (λ (core : CoreState TileState WordAndCredits). let e : Engaged = record { setup = kept.setup; core = core } in e) on.0, on.1))
+pub command_on : (kept new : ManagerState) (tiles : List TileState) (lines : List (Line WordAndCredits)) (before next : Schedule) (session : ℕ) (entry : Option Entry) → IsEngagedWith kept.setup (core_of_parts kept tiles lines) before → IsCommitted kept new session entry → IsBroughtUp new.setup new.history before next → (engaged_of new tiles lines ≡ after_event (engaged_of kept tiles lines) (Command session)) × IsEngagedWith new.setup (core_of_parts new tiles lines) next
+command_on kept new tiles lines before next session entry engaged commit =
+    let P : ManagerState → Type 0 = λ n. IsLegal n.setup n.history → IsBroughtUp n.setup n.history before next → (engaged_of n tiles lines ≡ after_event (engaged_of kept tiles lines) (Command session)) × IsEngagedWith n.setup (core_of_parts n tiles lines) next in
+    subst P (sym commit.appended) (λ legal brought.
+    let on = goes_on kept.setup (core_of_parts kept tiles lines) before next session entry engaged commit.entry_is legal brought in
+    (ap (λ (core : CoreState TileState WordAndCredits). let e : Engaged = record { setup = kept.setup; core = core } in e) on.0, on.1)) commit.legal
 
 -- ---- the core before its first event
 

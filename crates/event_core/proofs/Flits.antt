@@ -8,14 +8,14 @@ use Rattle.bundle_model.specs.declared.world.World.{World}
 use Rattle.bundle_model.specs.declared.world.Grant.{Grant}
 use Rattle.bundle_model.specs.Grants.{IsApart}
 use Rattle.bundle_model.specs.Resources.{resources_of}
-use Rattle.bundle_model.proofs.Laws.{present_now, present_next, passage_claim, claim_held, claim_place}
+use Rattle.bundle_model.proofs.Laws.{present_now, present_next, one_holder, passage_claim, claim_held, claim_place}
 use Rattle.alone_model.specs.Network.{flit_on}
 use Rattle.alone_model.specs.App.{AppState, opening, alone_at}
 use Rattle.alone_model.specs.Slots.{app_slot}
 use Rattle.alone_model.proofs.Laws.{alone_begins, alone_next}
 use Rattle.grant_tables.specs.Claims.{Holder, Injection, Passage}
 use Rattle.event_core.specs.Links.{LinkFollows}
-use Rattle.event_core.proofs.Settled.{stands_parts, begun_by, earlier, back, one_grant, one_place}
+use Rattle.event_core.proofs.Settled.{stands_parts, begun_by, earlier, back, one_grant, holds_at}
 use Rattle.grant_tables.proofs.Laws.{any_at}
 
 -- the application of a holder, alone at the beginning of a slot
@@ -66,11 +66,11 @@ module _ (world : World) (grants : List Grant) (slot : ℕ) where
   none_before : IsApart world grants → (x : Injection world grants (slot + 1)) (hop link : ℕ) → x.holder.grant.start ≡ slot → slice_get x.way.path hop ≡ Some link → (x.slot + 1 + hop) % world.platform.table_slots ≡ row → Passage world grants slot row link → ⊥
   none_before apart x hop link same there is p =
       let y = p.injection in
-      let one = one_place world grants slot (slot + 1) slot _ _ x.holder y.holder (LinkSlot link row) apart
-      (present_next grants slot x.holder.index x.holder.grant x.holder.granted x.holder.stands)
-      (present_now grants slot y.holder.index y.holder.grant y.holder.granted y.holder.stands)
-      (passage_held world grants (slot + 1) x hop link row there is)
-      (passage_held world grants slot y p.hop link row p.link_there p.row_is) in
+      let one = one_holder world grants slot (LinkSlot link row) apart
+      (holds_at world grants slot (slot + 1) _ (LinkSlot link row) x.holder (present_next grants slot x.holder.index x.holder.grant x.holder.granted x.holder.stands)
+      (passage_held world grants (slot + 1) x hop link row there is))
+      (holds_at world grants slot slot _ (LinkSlot link row) y.holder (present_now grants slot y.holder.index y.holder.grant y.holder.granted y.holder.stands)
+      (passage_held world grants slot y p.hop link row p.link_there p.row_is)) in
       let start : x.holder.grant.start ≡ y.holder.grant.start = ap (λ (g : Grant). g.start) (one_grant world grants (slot + 1) slot x.holder y.holder one) in
       let low = (stands_parts slot y.holder.grant y.holder.stands).0 in
       omega arith

@@ -14,7 +14,7 @@ use Rattle.bundle_model.specs.Resources.{resources_of}
 use Rattle.bundle_model.specs.Grants.{IsApart, bundle_at, grant_resources, lasts_to, stands_at}
 use Rattle.bundle_model.specs.WellFormed.{IsHeldEnd, IsWellFormed}
 use Rattle.bundle_model.specs.World.{IsSoundWorld, IsSoundCatalog, AreOfLoads}
-use Rattle.bundle_model.proofs.Laws.{IsPresent, present_next, one_holder, sound_bundle, port_held}
+use Rattle.bundle_model.proofs.Laws.{IsPresent, present_next, PresentHolder, one_holder, sound_bundle, port_held}
 use Rattle.grant_tables.specs.Claims.{Holder}
 
 -- a sound world, and grants that are apart and of its loads
@@ -80,21 +80,24 @@ pub one_bundle : (world : World) (grants : List Grant) (slot now : ℕ) (x : Hol
 one_bundle world grants slot now x y same =
     same_Some x.bundle y.bundle (sym x.bundled ∙ ap (λ (g : Grant). bundle_at world g.bundle) (one_grant world grants slot now x y same) ∙ y.bundled)
 
--- those present in a slot that hold one resource are one
-pub one_place : (world : World) (grants : List Grant) (slot now next k m : ℕ) (x : Holder world grants now) (y : Holder world grants next) (r : Resource) → IsApart world grants → IsPresent grants slot x.index x.grant → IsPresent grants slot y.index y.grant
-    → slice_get (resources_of world.platform x.bundle) k ≡ Some r → slice_get (resources_of world.platform y.bundle) m ≡ Some r → x.index ≡ y.index
-one_place world grants slot now next k m x y r apart here there mine its =
-    one_holder world grants slot x.index y.index k m x.grant y.grant r apart here there
-    (ap (λ (rs : List Resource). slice_get rs k) (its_resources world grants now x) ∙ mine)
-    (ap (λ (rs : List Resource). slice_get rs m) (its_resources world grants next y) ∙ its)
+-- a holder that is present in a slot holds what its bundle does
+abbrev pub holds_at : (world : World) (grants : List Grant) (slot now k : ℕ) (resource : Resource) → (x : Holder world grants now) → IsPresent grants slot x.index x.grant → slice_get (resources_of world.platform x.bundle) k ≡ Some resource → PresentHolder world grants slot resource
+holds_at world grants slot now k resource x present held = record {
+  index = x.index;
+  grant = x.grant;
+  present = present;
+  place = k;
+  held = ap (λ (rs : List Resource). slice_get rs k) (its_resources world grants now x) ∙ held;
+}
 
 -- one grant that stands holds a port
 pub one_port : (world : World) (grants : List Grant) (slot : ℕ) (x y : Holder world grants (slot + 1)) (one other : End) → IsApart world grants → IsHeldEnd x.bundle one → IsHeldEnd y.bundle other → one.tile ≡ other.tile → one.port ≡ other.port → x.bundle ≡ y.bundle
 one_port world grants slot x y one other apart mine its tile port =
     let first = port_held world.platform x.bundle mine.place mine.index one.port mine.part mine.there mine.port in
     let second = port_held world.platform y.bundle its.place its.index other.port its.part its.there its.port in
-    let same : Port its.part.tile other.port ≡ Port mine.part.tile one.port = ap₂ Port (its.tile ∙ sym tile ∙ sym mine.tile) (sym port) in
+    let resource : Resource = Port mine.part.tile one.port in
+    let same : Port its.part.tile other.port ≡ resource = ap₂ Port (its.tile ∙ sym tile ∙ sym mine.tile) (sym port) in
     one_bundle world grants (slot + 1) (slot + 1) x y
-    (one_place world grants slot (slot + 1) (slot + 1) first.0 second.0 x y (Port mine.part.tile one.port) apart
-    (present_next grants slot x.index x.grant x.granted x.stands) (present_next grants slot y.index y.grant y.granted y.stands) first.1
-    (second.1 ∙ ap (λ r. Some r) same))
+    (one_holder world grants slot resource apart
+    (holds_at world grants slot (slot + 1) first.0 resource x (present_next grants slot x.index x.grant x.granted x.stands) first.1)
+    (holds_at world grants slot (slot + 1) second.0 resource y (present_next grants slot y.index y.grant y.granted y.stands) (second.1 ∙ ap (λ r. Some r) same)))

@@ -24,6 +24,7 @@ impl Protocol<u64> for Packed {
 pub struct LinkOut {
     pub(crate) ring: Producer<u64, Global, Packed>,
     pub(crate) latch: Option<Flit>,
+    /// The ring has 64 places.
     ghost places: { producer_capacity ring ≡ 64 },
 }
 
@@ -32,7 +33,9 @@ pub struct LinkOut {
 pub struct LinkIn {
     pub(crate) ring: Consumer<u64, Global, Packed>,
     pub(crate) latch: Option<Flit>,
+    /// The ring has 64 places.
     ghost places: { consumer_capacity ring ≡ 64 },
+    /// A flit in the latch is the last one that came.
     ghost last: { but_latched latch (arrived ring) ++ latched latch ≡ arrived ring },
 }
 

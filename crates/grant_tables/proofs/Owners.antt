@@ -5,13 +5,14 @@ use Rattle.std.specs.Option.{option_map_or}
 use Rattle.std.proofs.lemmas.Bool.{eqb-true, eq-eqb}
 use Rattle.std.proofs.lemmas.Option.{none-some, slice_get-map}
 use Rattle.bundle_model.specs.declared.bundle.Bundle.{Bundle}
+use Rattle.bundle_model.specs.declared.resource.Resource.{Resource}
 use Rattle.bundle_model.specs.declared.world.World.{World}
 use Rattle.bundle_model.specs.declared.world.Grant.{Grant}
 use Rattle.bundle_model.specs.Resources.{resources_of}
 use Rattle.bundle_model.specs.Grants.{IsApart, bundle_at, grant_resources}
 use Rattle.bundle_model.specs.World.{IsSoundCatalog}
 use Rattle.bundle_model.specs.WellFormed.{IsWellFormed}
-use Rattle.bundle_model.proofs.Laws.{AreKeyed, mapped_place, filtered_place, filtered_at, filtered_keyed, one_claim, one_holder, sound_bundle, IsPresent}
+use Rattle.bundle_model.proofs.Laws.{AreKeyed, mapped_place, filtered_place, filtered_at, filtered_keyed, one_claim, IsPresent, PresentHolder, one_holder, sound_bundle}
 use Rattle.tdm_network.specs.declared.entries.TableEntry.{TableEntry}
 use Rattle.tdm_network.specs.Spots.{spot_of}
 use Rattle.grant_tables.specs.Entries.{Placed, bundle_entries, is_on, entries_on, grant_entries}
@@ -70,11 +71,29 @@ own_claims world tile one other a b sound x y same =
     one_claim_there world.platform x.placed y.placed (own_grounded world tile one a sound x) (own_grounded world tile other b sound y) (x.on_tile ∙ sym y.on_tile)
     (ap spot_of x.entry_is ∙ same ∙ ap spot_of (sym y.entry_is))
 
+-- a grant that is present in a slot, and an entry that its bundle has on a tile
+pub record PresentOwner (world : World) (grants : List Grant) (slot tile : ℕ) (entry : TableEntry) : Type 0 where
+  pub index : ℕ
+  pub grant : Grant
+  pub present : IsPresent grants slot index grant
+  pub own : IsOwn world tile grant entry
+
+-- it holds the entry's claim
+abbrev owner_holds : (world : World) (grants : List Grant) (slot tile : ℕ) (entry : TableEntry) (claim : Resource) → (x : PresentOwner world grants slot tile entry) → x.own.placed.claim ≡ claim → PresentHolder world grants slot claim
+owner_holds world grants slot tile entry claim x same = record {
+  index = x.index;
+  grant = x.grant;
+  present = x.present;
+  place = held_place x.own.bundle x.own.place;
+  held = own_held world tile x.grant entry x.own ∙ ap (λ r. Some r) same;
+}
+
 -- present grants that have entries at one place are one
-pub one_owner : (world : World) (grants : List Grant) (slot tile i j : ℕ) (one other : Grant) (a b : TableEntry) → IsSoundCatalog world → IsApart world grants → IsPresent grants slot i one → IsPresent grants slot j other → IsOwn world tile one a → IsOwn world tile other b → spot_of a ≡ spot_of b → i ≡ j
-one_owner world grants slot tile i j one other a b sound apart present also x y same =
-    one_holder world grants slot i j (held_place x.bundle x.place) (held_place y.bundle y.place) one other x.placed.claim apart present also (own_held world tile one a x)
-    (own_held world tile other b y ∙ ap (λ r. Some r) (sym (own_claims world tile one other a b sound x y same)))
+pub one_owner : (world : World) (grants : List Grant) (slot tile : ℕ) (a b : TableEntry) → IsSoundCatalog world → IsApart world grants → (x : PresentOwner world grants slot tile a) (y : PresentOwner world grants slot tile b) → spot_of a ≡ spot_of b → x.index ≡ y.index
+one_owner world grants slot tile a b sound apart x y same =
+    let claim : Resource = x.own.placed.claim in
+    one_holder world grants slot claim apart (owner_holds world grants slot tile a claim x refl)
+    (owner_holds world grants slot tile b claim y (sym (own_claims world tile x.grant y.grant a b sound x.own y.own same)))
 
 entries_keyed : (world : World) (bundle : Bundle) → IsWellFormed world.platform bundle → AreKeyed claim_of (bundle_entries world.platform bundle)
 entries_keyed world bundle formed i j p q at_i at_j same =

@@ -69,25 +69,30 @@ one_put label tile p rows = one_by label p rows (p.tile == tile)
 flat_drop : {X : Type 0} (f : X → List Placed) (xs : List X) (i : ℕ) (d : X) → i < length xs → flat_map f (drop i xs) ≡ f (get_or xs i d) ++ flat_map f (drop (i + 1) xs)
 flat_drop f xs i d inside = ap (flat_map f) (drop_more xs i d inside)
 
-pub flat_front : {X : Type 0} (n : ℕ) (label : Label) (tile : ℕ) (final : List Row) (f : X → List Placed) (xs : List X) (i : ℕ) (d x : X) (rows : List Row) → i < length xs → Remains n label tile final (flat_map f (drop i xs)) rows → x ≡ get_or xs i d → HaveRoom n (entries_on tile (f x)) rows
-flat_front n label tile final f xs i d x rows inside is at =
-    subst (λ item. HaveRoom n (entries_on tile (f item)) rows) (sym at)
-    (remain_front n label tile final (f (get_or xs i d)) (flat_map f (drop (i + 1) xs)) rows (subst (λ placed. Remains n label tile final placed rows) (flat_drop f xs i d inside) is))
-
-pub flat_behind : {X : Type 0} (n : ℕ) (label : Label) (tile : ℕ) (final : List Row) (f : X → List Placed) (xs : List X) (i : ℕ) (d x : X) (rows next : List Row) → i < length xs → Remains n label tile final (flat_map f (drop i xs)) rows → x ≡ get_or xs i d → next ≡ with_entries label (entries_on tile (f x)) rows → Remains n label tile final (flat_map f (drop (i + 1) xs)) next
-flat_behind n label tile final f xs i d x rows next inside is at put =
-    remain_behind n label tile final (f (get_or xs i d)) (flat_map f (drop (i + 1) xs)) rows next (subst (λ placed. Remains n label tile final placed rows) (flat_drop f xs i d inside) is)
-    (put ∙ ap (λ item. with_entries label (entries_on tile (f item)) rows) at)
-
 pub none_left : {X : Type 0} (xs : List X) (i : ℕ) → length xs ≤ i → drop i xs ≡ []
 none_left [] zero past = refl
 none_left [] (suc i) past = refl
 none_left (x ∷ xs) zero past = absurd (omega (arith, past))
 none_left (x ∷ xs) (suc i) past = none_left xs i (omega (arith, past))
 
-pub flat_done : {X : Type 0} (n : ℕ) (label : Label) (tile : ℕ) (final : List Row) (f : X → List Placed) (xs : List X) (i : ℕ) (rows : List Row) → length xs ≤ i → Remains n label tile final (flat_map f (drop i xs)) rows → rows ≡ final
-flat_done n label tile final f xs i rows past is =
-    (subst (λ rest. Remains n label tile final (flat_map f rest) rows) (none_left xs i past) is).comes
+-- the entries that each item of a list from the i-th on has, and that remain
+module _ {X : Type 0} (n : ℕ) (label : Label) (tile : ℕ) (final : List Row) (f : X → List Placed) (xs : List X) (i : ℕ) where
+  -- those of the next item are next
+  pub flat_front : (d x : X) (rows : List Row) → i < length xs → Remains n label tile final (flat_map f (drop i xs)) rows → x ≡ get_or xs i d → HaveRoom n (entries_on tile (f x)) rows
+  flat_front d x rows inside is at =
+      subst (λ item. HaveRoom n (entries_on tile (f item)) rows) (sym at)
+      (remain_front n label tile final (f (get_or xs i d)) (flat_map f (drop (i + 1) xs)) rows (subst (λ placed. Remains n label tile final placed rows) (flat_drop f xs i d inside) is))
+
+  -- once they are installed, those of the others remain
+  pub flat_behind : (d x : X) (rows next : List Row) → i < length xs → Remains n label tile final (flat_map f (drop i xs)) rows → x ≡ get_or xs i d → next ≡ with_entries label (entries_on tile (f x)) rows → Remains n label tile final (flat_map f (drop (i + 1) xs)) next
+  flat_behind d x rows next inside is at put =
+      remain_behind n label tile final (f (get_or xs i d)) (flat_map f (drop (i + 1) xs)) rows next (subst (λ placed. Remains n label tile final placed rows) (flat_drop f xs i d inside) is)
+      (put ∙ ap (λ item. with_entries label (entries_on tile (f item)) rows) at)
+
+  -- where no item is left, none does
+  pub flat_done : (rows : List Row) → length xs ≤ i → Remains n label tile final (flat_map f (drop i xs)) rows → rows ≡ final
+  flat_done rows past is =
+      (subst (λ rest. Remains n label tile final (flat_map f rest) rows) (none_left xs i past) is).comes
 
 -- the channels of pairs, pair by pair
 flat_twice : {X Y Z : Type 0} (g : Y → List Z) (f : X → List Y) (xs : List X) → flat_map g (flat_map f xs) ≡ flat_map (λ x. flat_map g (f x)) xs

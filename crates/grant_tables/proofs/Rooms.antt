@@ -13,12 +13,16 @@ use Rattle.grant_tables.specs.inner.Room.{HaveRoom}
 use Rattle.grant_tables.proofs.Sides.{append_from, flat_from}
 use Rattle.grant_tables.proofs.Install.{put_laid, put_elsewhere}
 
--- what holds of each item, and of each two items at different places
+-- what holds of each item, of each two items at different places, and of each item of one list and each of
+-- another
 abbrev pub EachIs : {X : Type 0} → (X → Type 0) → List X → Type 0
 EachIs {X} P xs = (k : ℕ) (x : X) → slice_get xs k ≡ Some x → P x
 
 abbrev pub EachTwo : {X : Type 0} → (X → X → Type 0) → List X → Type 0
 EachTwo {X} R xs = (i j : ℕ) (x y : X) → i < j → slice_get xs i ≡ Some x → slice_get xs j ≡ Some y → R x y
+
+abbrev pub EachCross : {X : Type 0} → (X → X → Type 0) → List X → List X → Type 0
+EachCross {X} R xs ys = (i j : ℕ) (x y : X) → slice_get xs i ≡ Some x → slice_get ys j ≡ Some y → R x y
 
 pub all_from : {X : Type 0} (P : X → Type 0) (xs : List X) → EachIs P xs → All P xs
 all_from P xs each = λ k d inside. each k (get_or xs k d) (slice_get-get_or xs k d inside)
@@ -26,7 +30,7 @@ all_from P xs each = λ k d inside. each k (get_or xs k d) (slice_get-get_or xs 
 pub pairs_from : {X : Type 0} (R : X → X → Type 0) (xs : List X) → EachTwo R xs → AllPairs R xs
 pairs_from R xs two = λ i j d before inside. two i j (get_or xs i d) (get_or xs j d) before (slice_get-get_or xs i d (omega (arith, before, inside))) (slice_get-get_or xs j d inside)
 
-two_append : {X : Type 0} (R : X → X → Type 0) (xs ys : List X) → EachTwo R xs → EachTwo R ys → ((i j : ℕ) (x y : X) → slice_get xs i ≡ Some x → slice_get ys j ≡ Some y → R x y) → EachTwo R (xs ++ ys)
+two_append : {X : Type 0} (R : X → X → Type 0) (xs ys : List X) → EachTwo R xs → EachTwo R ys → EachCross R xs ys → EachTwo R (xs ++ ys)
 two_append R [] ys first second cross i j x y before at_i at_j = second i j x y before at_i at_j
 two_append R (z ∷ xs) ys first second cross zero zero x y before at_i at_j = absurd (omega (arith, before))
 two_append R (z ∷ xs) ys first second cross zero (suc j) x y before at_i at_j = elim (append_from xs ys j y at_j) [
@@ -37,18 +41,16 @@ two_append R (z ∷ xs) ys first second cross (suc i) zero x y before at_i at_j 
 two_append R (z ∷ xs) ys first second cross (suc i) (suc j) x y before at_i at_j =
     two_append R xs ys (λ k m a b earlier at_k at_m. first (suc k) (suc m) a b (omega (arith, earlier)) at_k at_m) second (λ k m a b at_k at_m. cross (suc k) m a b at_k at_m) i j x y (omega (arith, before)) at_i at_j
 
--- the items of different lists, and those of one
+-- the items of one list, and those of the lists of two different items
 pub two_flat : {X Y : Type 0} (R : Y → Y → Type 0) (f : X → List Y) (xs : List X)
-    → ((k : ℕ) (x : X) → slice_get xs k ≡ Some x → EachTwo R (f x))
-    → ((i j : ℕ) (x y : X) (k m : ℕ) (a b : Y) → i < j → slice_get xs i ≡ Some x → slice_get xs j ≡ Some y → slice_get (f x) k ≡ Some a → slice_get (f y) m ≡ Some b → R a b)
-    → EachTwo R (flat_map f xs)
+    → EachIs (λ x. EachTwo R (f x)) xs → EachTwo (λ x y. EachCross R (f x) (f y)) xs → EachTwo R (flat_map f xs)
 two_flat R f [] own cross = λ i j x y before at_i at_j. absurd (none-some x at_i)
 two_flat {X} {Y} R f (first ∷ xs) own cross =
-    let rest : EachTwo R (flat_map f xs) = two_flat R f xs (λ k x at. own (suc k) x at) (λ i j x y k m a b before at_i at_j at_k at_m. cross (suc i) (suc j) x y k m a b (omega (arith, before)) at_i at_j at_k at_m) in
-    two_append R (f first) (flat_map f xs) (own 0 first refl) rest (λ i j a b at_i at_j. beyond i j a b at_i at_j)
+    let rest : EachTwo R (flat_map f xs) = two_flat R f xs (λ k x at. own (suc k) x at) (λ i j x y before at_i at_j. cross (suc i) (suc j) x y (omega (arith, before)) at_i at_j) in
+    two_append R (f first) (flat_map f xs) (own 0 first refl) rest beyond
   where
-    beyond : (i j : ℕ) (a b : Y) → slice_get (f first) i ≡ Some a → slice_get (flat_map f xs) j ≡ Some b → R a b
-    beyond i j a b at_i at_j = let from = flat_from f xs j b at_j in cross 0 (suc from.0) first from.1 i from.2 a b (omega arith) refl from.3 at_i from.4
+    beyond : EachCross R (f first) (flat_map f xs)
+    beyond i j a b at_i at_j = let from = flat_from f xs j b at_j in cross 0 (suc from.0) first from.1 (omega arith) refl from.3 i from.2 a b at_i from.4
 
 -- room for the entries in front
 pub room_front : (n : ℕ) (xs ys : List TableEntry) (rows : List Row) → HaveRoom n (xs ++ ys) rows → HaveRoom n xs rows

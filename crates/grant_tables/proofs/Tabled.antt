@@ -24,7 +24,7 @@ use Rattle.grant_tables.specs.Law.{TablesBegin, TablesGoOn}
 use Rattle.grant_tables.specs.inner.Room.{HaveRoom}
 use Rattle.grant_tables.proofs.Changes.{ended_gone, begun_stands, begun_late, stays_stands, stood_begins, none_stands}
 use Rattle.grant_tables.proofs.Sides.{flat_from}
-use Rattle.grant_tables.proofs.Owners.{own_entry, own_grounded, one_owner, own_apart}
+use Rattle.grant_tables.proofs.Owners.{own_entry, own_grounded, PresentOwner, one_owner, own_apart}
 use Rattle.grant_tables.proofs.Install.{Tagged, tagged, told_by, with_all, AreInRange, all_laid, all_stay, all_told, all_known, left_laid, left_stay, left_known}
 use Rattle.grant_tables.proofs.Rooms.{EachTwo, all_from, pairs_from, two_flat}
 
@@ -110,10 +110,19 @@ module _ (world : World) (grants : List Grant) (slot tile : ℕ) where
   all_in_range : IsSoundCatalog world → AreInRange world.platform.table_slots (begun_entries world tile grants slot)
   all_in_range sound = λ k x at. begun_range sound x.0 x.1 (begun_from k x at)
 
+  -- the grant of an entry that is held after the slot is present in the slot
+  abbrev held_owner : (label : Label) (entry : TableEntry) → IsHeld world grants (slot + 1) tile label entry → PresentOwner world grants slot tile entry
+  held_owner label entry x = record {
+    index = x.index;
+    grant = x.grant;
+    present = present_next grants slot x.index x.grant x.granted x.stands;
+    own = own_entry world tile x.grant x.place entry x.there;
+  }
+
   -- entries at one place of grants that stand after the slot are one, of one grant
   one_entry : IsSoundCatalog world → IsApart world grants → (a b : Label) (one other : TableEntry) → (x : IsHeld world grants (slot + 1) tile a one) → (y : IsHeld world grants (slot + 1) tile b other) → spot_of one ≡ spot_of other → (x.index ≡ y.index) × (told_by (tagged a one) ≡ told_by (tagged b other))
   one_entry sound apart a b one other x y same =
-      let index = one_owner world grants slot tile x.index y.index x.grant y.grant one other sound apart (present_next grants slot x.index x.grant x.granted x.stands) (present_next grants slot y.index y.grant y.granted y.stands) (own_entry world tile x.grant x.place one x.there) (own_entry world tile y.grant y.place other y.there) same in
+      let index = one_owner world grants slot tile one other sound apart (held_owner a one x) (held_owner b other y) same in
       let grant : x.grant ≡ y.grant = same_Some x.grant y.grant (sym x.granted ∙ ap (slice_get grants) index ∙ y.granted) in
       let here : slice_get (grant_entries world tile x.grant) y.place ≡ Some other = ap (λ g. slice_get (grant_entries world tile g) y.place) grant ∙ y.there in
       let place = own_apart world tile x.grant sound x.place y.place one other x.there here same in
@@ -213,10 +222,12 @@ module _ (world : World) (grants : List Grant) (slot tile : ℕ) where
   differ_there : IsSoundCatalog world → IsApart world grants → EachTwo (λ one other. spot_of one ≢ spot_of other) beginning
   differ_there sound apart = two_flat (λ one other. spot_of one ≢ spot_of other) (grant_entries world tile) (filter (begins_in slot) grants)
       (λ k grant at i j one other before at_i at_j same. let place = own_apart world tile grant sound i j one other at_i at_j same in absurd (omega (arith, before, place)))
-      (λ i j one other k m a b before at_i at_j at_k at_m same.
+      (λ i j one other before at_i at_j k m a b at_k at_m same.
       let x = filtered_place (begins_in slot) grants i one at_i in
       let y = filtered_place (begins_in slot) grants j other at_j in
-      let index = one_owner world grants slot tile x.0 y.0 one other a b sound apart (present_next grants slot x.0 one x.1 (begun_stands slot one x.2)) (present_next grants slot y.0 other y.1 (begun_stands slot other y.2)) (own_entry world tile one k a at_k) (own_entry world tile other m b at_m) same in
+      let index = one_owner world grants slot tile a b sound apart
+      (record { index = x.0; grant = one; present = present_next grants slot x.0 one x.1 (begun_stands slot one x.2); own = own_entry world tile one k a at_k })
+      (record { index = y.0; grant = other; present = present_next grants slot y.0 other y.1 (begun_stands slot other y.2); own = own_entry world tile other m b at_m }) same in
       let grant : one ≡ other = same_Some one other (sym x.1 ∙ ap (slice_get grants) index ∙ y.1) in
       let place : i ≡ j = filtered_keyed (λ (g : Grant). g.label) (begins_in slot) grants (keyed_pairs (λ (g : Grant). g.label) grants apart.labelled) i j one other at_i at_j (ap (λ (g : Grant). g.label) grant) in
       absurd (omega (arith, before, place)))

@@ -1,18 +1,14 @@
 -- A setup of few short scripts is sound.
-use Rattle.std.proofs.Common.{◌<◌, ◌≤◌, List, length, arith}
+use Rattle.std.proofs.Common.{◌<◌, ◌≤◌, length, arith}
 use Rattle.std.specs.List.{All}
 use Rattle.std.proofs.lemmas.List.Sums.{sum_by-le}
 use Rattle.std.proofs.lemmas.Nat.{mul-le}
-use Rattle.soc_base.specs.declared.limits.TheConstants.{MOST_COMMANDS, MOST_SCRIPTS}
+use Rattle.soc_base.specs.declared.limits.TheConstants.{MOST_SCRIPTS}
 use Rattle.bundle_model.specs.World.{IsSoundCatalog}
 use Rattle.script_file.specs.declared.command.Script.{Script}
 use Rattle.vep_manager.specs.declared.setup.Setup.{Setup}
 use Rattle.vep_manager.specs.Setup.{IsSound}
 use Rattle.live_run.specs.inner.Small.{IsSmallScript}
-
-pub small_scripts : (scripts : List Script) → All IsSmallScript scripts
-    → All (λ script. length script.commands ≤ MOST_COMMANDS) scripts
-small_scripts scripts small = λ k d below. let low = (small k d below).few in omega (arith, low)
 
 pub small_setup : (setup : Setup) → IsSoundCatalog setup.world → 0 < length setup.scripts
     → length setup.scripts ≤ MOST_SCRIPTS → All IsSmallScript setup.scripts → setup.budget ≤ 1000 → IsSound setup

@@ -58,7 +58,7 @@ pub fn start<'s, E, J: Job<D> + Drop + Send + 's, D: Send + Drop + 's>(
 }
 
 /// Waits for a job, and answers what it gave.
-pub fn finish<R: Threads, J: Job<D>, D>(rt: &R, started: Started<J, D>) -> D
+pub fn wait_for<R: Threads, J: Job<D>, D>(rt: &R, started: Started<J, D>) -> D
     ensures { (job : J) → Keeps J.owes job started → J.owes job result }
 {
     match started {

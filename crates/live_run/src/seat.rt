@@ -16,6 +16,7 @@ pub struct Seat<'a, S: Service<P>, P, R> {
     pub rt: &'a R,
     /// The worker's own pass.
     pub pass: P,
+    /// The pass is of what all threads share, and rests between two calls.
     pub ghost rests: { S.rests service.now pass } by { S.rests_prop service.now pass },
 }
 

@@ -5,7 +5,7 @@ ghost use Rattle.std.specs.Thread.{IsSync};
 ghost use Rattle.vep_manager.specs.History.{IsSession};
 ghost use Rattle.soc_base.specs.declared.limits.TheConstants.{MOST_SCRIPTS};
 
-use crate::job::{Job, finish, start};
+use crate::job::{Job, start, wait_for};
 use crate::service::Service;
 use std::sync::Wait;
 use std::thread;
@@ -87,7 +87,7 @@ pub fn serve_from<P: Send + Drop, S: Service<P> + Sync, R: Threads + Wait + Sync
             };
             let started = start(scope, work);
             let mut pass = serve_from(rt, gate, service, pass, session + 1, last);
-            let part = finish(rt, started);
+            let part = wait_for(rt, started);
             service.join(&mut pass, part);
             pass
         },

@@ -1,5 +1,5 @@
 -- A tile before its first slot has the sizes of its platform.
-use Rattle.std.proofs.Common.{◌≡◌, ℕ, List, map, replicate, None, All, refl}
+use Rattle.std.proofs.Common.{◌≡◌, ℕ, List, refl}
 use Rattle.std.proofs.lemmas.List.{length-replicate}
 use Rattle.std.proofs.lemmas.List.Elements.{All-replicate}
 use Rattle.bundle_model.specs.declared.world.World.{World}

@@ -4,7 +4,7 @@ use Rattle.std.proofs.lemmas.List.{take_all}
 use Rattle.std.proofs.lemmas.List.Sums.{sum_by-cons}
 use Rattle.tile_core.specs.declared.station.Station.{Station}
 use Rattle.serial_run.specs.Run.{tiles_of}
-use Rattle.report_text.specs.State.{platform_sum, tile_sum}
+use Rattle.report_text.specs.State.{platform_sum}
 use Rattle.report_text.specs.inner.Shares.{tile_share}
 
 sum_mapped : {X Y : Type 0} (f : Y → ℕ) (g : X → Y) (xs : List X) → sum_by (λ x. f (g x)) xs ≡ sum_by f (map g xs)

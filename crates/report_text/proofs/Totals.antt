@@ -1,9 +1,8 @@
 -- What is counted by the logs on the tiles is what the traces of the applications tell.
-use Rattle.std.proofs.Common.{◌≡◌, ℕ, ◌+◌, cond, List, [], ◌∷◌, ◌++◌, codes, length, map, sum_by, count_by, Option, Some, None, All, refl, sym, ap, ap₂, subst, ◌∙◌, arith}
+use Rattle.std.proofs.Common.{◌≡◌, ℕ, ◌+◌, List, [], ◌∷◌, ◌++◌, codes, length, map, sum_by, Option, Some, None, All, refl, sym, ap, ap₂, subst, ◌∙◌, arith}
 use Rattle.std.specs.List.{flat_map}
 use Rattle.std.specs.List.Sorted.{IsPermutation}
 use Rattle.std.specs.Option.{option_map_or}
-use Rattle.std.specs.Str.{bytes_eq}
 use Rattle.std.proofs.lemmas.List.Concat.{length-flat_map}
 use Rattle.std.proofs.lemmas.List.Elements.{All-head, All-tail}
 use Rattle.std.proofs.lemmas.List.Sorted.{length_permutation}
@@ -20,13 +19,11 @@ use Rattle.alone_model.specs.App.{alone_at}
 use Rattle.alone_model.specs.Trace.{part_trace}
 use Rattle.tile_core.specs.declared.station.Station.{Station}
 use Rattle.vep_manager.specs.declared.setup.Setup.{Setup}
-use Rattle.vep_manager.specs.declared.reply.Entry.{Entry}
-use Rattle.vep_manager.specs.History.{grants_of}
 use Rattle.event_core.specs.Stands.{stop_slot}
 use Rattle.report_text.specs.Report.{IsAppTrace}
-use Rattle.report_text.specs.Summary.{end_word, rows_line, parts_line, all_parts, AreAppTraces}
+use Rattle.report_text.specs.Summary.{rows_line, parts_line, all_parts, AreAppTraces}
 use Rattle.report_text.specs.inner.Logs.{log_on, rows_on, traces_on, HoldsAlone}
-use Rattle.report_text.specs.inner.Counts.{ended, log_count, part_count, app_count}
+use Rattle.report_text.specs.inner.Counts.{ended, part_count, app_count}
 use Rattle.report_text.specs.inner.Totals.{rows_text, parts_text, totals_text}
 use Rattle.report_text.specs.declared.counts.Counted.{Counted}
 use Rattle.report_text.specs.declared.counts.Counted.TheVariants.{Rows, Cut, Halts, Faults, Lives}

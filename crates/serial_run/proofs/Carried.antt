@@ -35,7 +35,8 @@ state_same : (one other : Station) → one.tile ≡ other.tile
 state_same one other tile outs ins = cc
 
 module _ (hop : Hop) (s s_new r r_new : Station) (carries : CarriesStations hop s s_new r r_new) (w : Wire LinkOut)
-    (v : Wire LinkIn) (at_w : slice_get s.outs.items hop.out ≡ Some w) (at_v : slice_get r.ins.items hop.input ≡ Some v) where
+    (v : Wire LinkIn) (at_w : slice_get s.outs.items hop.out ≡ Some w)
+    (at_v : slice_get r.ins.items hop.input ≡ Some v) where
   sender_state : station_state s_new ≡ station_state s
   sender_state =
       let both = carries.carries.carries w v at_w at_v in
@@ -81,13 +82,16 @@ module _ (hop : Hop) (old new : List Station) (here : AreHere hop old) (carries 
   -- nothing changes that is seen
   pub carries_seen : map station_state new ≡ map station_state old
   carries_seen =
-      let sent = sender_state hop here.sender carries.sender here.receiver carries.receiver both here.out here.input here.out_is here.input_is in
-      let received = receiver_state hop here.sender carries.sender here.receiver carries.receiver both here.out here.input here.out_is here.input_is in
+      let sent = sender_state hop here.sender carries.sender here.receiver carries.receiver both here.out here.input
+      here.out_is here.input_is in
+      let received = receiver_state hop here.sender carries.sender here.receiver carries.receiver both here.out
+      here.input here.out_is here.input_is in
       let d = here.sender in
       let at_from : station_state carries.sender ≡ station_state (get_or old hop.from d) =
       sent ∙ ap station_state (sym (get_or_from_slice_get old hop.from here.sender d here.from)) in
       let at_to : station_state carries.receiver ≡ station_state (get_or (set old hop.from carries.sender) hop.to d) =
-      received ∙ ap station_state (sym (get_or-set_other old hop.from hop.to carries.sender d (λ same. here.apart (sym same)) ∙ get_or_from_slice_get old hop.to here.receiver d here.to)) in
+      received ∙ ap station_state (sym (get_or-set_other old hop.from hop.to carries.sender d
+      (λ same. here.apart (sym same)) ∙ get_or_from_slice_get old hop.to here.receiver d here.to)) in
       ap (map station_state) carries.stations_are
       ∙ map-set_same station_state (set old hop.from carries.sender) hop.to carries.receiver d at_to
       ∙ map-set_same station_state old hop.from carries.sender d at_from
@@ -116,25 +120,35 @@ module _ (hop : Hop) (old new : List Station) (here : AreHere hop old) (carries 
       ap (λ found. option_and_then (λ (station : Station). slice_get station.ins.items hop.input) found) new_to in
       let sender : slice_get carries.sender.outs.items hop.out ≡ Some both.carries.sender =
       ap (λ wires. slice_get wires hop.out) both.carries.outs_are
-      ∙ set_here here.sender.outs.items hop.out both.carries.sender (slice_get_within here.sender.outs.items hop.out here.out here.out_is) in
+      ∙ set_here here.sender.outs.items hop.out both.carries.sender
+      (slice_get_within here.sender.outs.items hop.out here.out here.out_is) in
       let receiver : slice_get carries.receiver.ins.items hop.input ≡ Some both.carries.receiver =
       ap (λ wires. slice_get wires hop.input) both.carries.ins_are
-      ∙ set_here here.receiver.ins.items hop.input both.carries.receiver (slice_get_within here.receiver.ins.items hop.input here.input here.input_is) in
+      ∙ set_here here.receiver.ins.items hop.input both.carries.receiver
+      (slice_get_within here.receiver.ins.items hop.input here.input here.input_is) in
       let is_s = same_Some both.carries.sender s (sym sender ∙ sym outs ∙ at_s) in
       let is_r = same_Some both.carries.receiver r (sym receiver ∙ sym ins ∙ at_r) in
       subst (λ x. IsCarried x r) is_s (subst (IsCarried both.carries.sender) is_r pair.carried)
 
-  out_of : (tile place : ℕ) (station : Option Station) → slice_get new tile ≡ station → out_at new tile place ≡ option_and_then (λ (station : Station). slice_get station.outs.items place) station
-  out_of tile place station is = ap (λ found. option_and_then (λ (station : Station). slice_get station.outs.items place) found) is
+  out_of : (tile place : ℕ) (station : Option Station) → slice_get new tile ≡ station
+      → out_at new tile place ≡ option_and_then (λ (station : Station). slice_get station.outs.items place) station
+  out_of tile place station is = ap (λ found. option_and_then
+      (λ (station : Station). slice_get station.outs.items place) found) is
 
-  in_of : (tile place : ℕ) (station : Option Station) → slice_get new tile ≡ station → in_at new tile place ≡ option_and_then (λ (station : Station). slice_get station.ins.items place) station
-  in_of tile place station is = ap (λ found. option_and_then (λ (station : Station). slice_get station.ins.items place) found) is
+  in_of : (tile place : ℕ) (station : Option Station) → slice_get new tile ≡ station
+      → in_at new tile place ≡ option_and_then (λ (station : Station). slice_get station.ins.items place) station
+  in_of tile place station is = ap (λ found. option_and_then
+      (λ (station : Station). slice_get station.ins.items place) found) is
 
-  old_out : (tile place : ℕ) (station : Option Station) → slice_get old tile ≡ station → out_at old tile place ≡ option_and_then (λ (station : Station). slice_get station.outs.items place) station
-  old_out tile place station is = ap (λ found. option_and_then (λ (station : Station). slice_get station.outs.items place) found) is
+  old_out : (tile place : ℕ) (station : Option Station) → slice_get old tile ≡ station
+      → out_at old tile place ≡ option_and_then (λ (station : Station). slice_get station.outs.items place) station
+  old_out tile place station is = ap (λ found. option_and_then
+      (λ (station : Station). slice_get station.outs.items place) found) is
 
-  old_in : (tile place : ℕ) (station : Option Station) → slice_get old tile ≡ station → in_at old tile place ≡ option_and_then (λ (station : Station). slice_get station.ins.items place) station
-  old_in tile place station is = ap (λ found. option_and_then (λ (station : Station). slice_get station.ins.items place) found) is
+  old_in : (tile place : ℕ) (station : Option Station) → slice_get old tile ≡ station
+      → in_at old tile place ≡ option_and_then (λ (station : Station). slice_get station.ins.items place) station
+  old_in tile place station is = ap (λ found. option_and_then
+      (λ (station : Station). slice_get station.ins.items place) found) is
 
   out_from : (place : ℕ) → place ≢ hop.out → out_at new hop.from place ≡ out_at old hop.from place
   out_from place other =
@@ -164,15 +178,17 @@ module _ (hop : Hop) (old new : List Station) (here : AreHere hop old) (carries 
 
   -- another end stays
   out_stays : (tile place : ℕ) → (tile ≡ hop.from → place ≡ hop.out → ⊥) → out_at new tile place ≡ out_at old tile place
-  out_stays tile place other = elim (cases_order tile hop.from) as (λ _. out_at new tile place ≡ out_at old tile place) [
-    | inl same ↦ subst (λ t. out_at new t place ≡ out_at old t place) (sym same) (out_from place (other same))
-    | inr not_from ↦ elim (cases_order tile hop.to) as (λ _. out_at new tile place ≡ out_at old tile place) [
-      | inl same ↦ subst (λ t. out_at new t place ≡ out_at old t place) (sym same) (out_to place)
-      | inr not_to ↦ ap (λ found. option_and_then (λ (station : Station). slice_get station.outs.items place) found)
-          (new_else tile (λ e. elim not_from as (λ _. ⊥) [ inl less ↦ omega (arith, e) | inr more ↦ omega (arith, e) ])
-          (λ e. elim not_to as (λ _. ⊥) [ inl less ↦ omega (arith, e) | inr more ↦ omega (arith, e) ]))
-    ]
-  ]
+  out_stays tile place other = elim (cases_order tile hop.from)
+      as (λ _. out_at new tile place ≡ out_at old tile place) [
+        | inl same ↦ subst (λ t. out_at new t place ≡ out_at old t place) (sym same) (out_from place (other same))
+        | inr not_from ↦ elim (cases_order tile hop.to) as (λ _. out_at new tile place ≡ out_at old tile place) [
+          | inl same ↦ subst (λ t. out_at new t place ≡ out_at old t place) (sym same) (out_to place)
+          | inr not_to ↦ ap (λ found. option_and_then (λ (station : Station). slice_get station.outs.items place) found)
+              (new_else tile
+              (λ e. elim not_from as (λ _. ⊥) [ inl less ↦ omega (arith, e) | inr more ↦ omega (arith, e) ])
+              (λ e. elim not_to as (λ _. ⊥) [ inl less ↦ omega (arith, e) | inr more ↦ omega (arith, e) ]))
+        ]
+      ]
 
   in_stays : (tile place : ℕ) → (tile ≡ hop.to → place ≡ hop.input → ⊥) → in_at new tile place ≡ in_at old tile place
   in_stays tile place other = elim (cases_order tile hop.to) as (λ _. in_at new tile place ≡ in_at old tile place) [
@@ -186,11 +202,16 @@ module _ (hop : Hop) (old new : List Station) (here : AreHere hop old) (carries 
   ]
 
   -- the ends of another link stay
-  pub carries_else : (Holds : Wire LinkOut → Wire LinkIn → Type 0) (stations : List Ends) (number other : ℕ) (hop_else : Hop)
-      → HasEnds stations number hop → HasEnds stations other hop_else → other ≢ number → AtEnds Holds old hop_else → AtEnds Holds new hop_else
+  pub carries_else : (Holds : Wire LinkOut → Wire LinkIn → Type 0) (stations : List Ends) (number other : ℕ)
+      (hop_else : Hop)
+      → HasEnds stations number hop → HasEnds stations other hop_else → other ≢ number → AtEnds Holds old hop_else
+      → AtEnds Holds new hop_else
   carries_else Holds stations number other hop_else has has_else apart holds s r at_s at_r =
       let out = out_stays hop_else.from hop_else.out (λ tile place. apart
-      (sym has_else.out_link ∙ ap (λ (seen : Seen). seen.link) (same_Some has_else.out has.out (sym has_else.out_is ∙ rw (tile, place) (has.out_is))) ∙ has.out_link)) in
+      (sym has_else.out_link ∙ ap (λ (seen : Seen). seen.link)
+      (same_Some has_else.out has.out (sym has_else.out_is ∙ rw (tile, place) (has.out_is))) ∙ has.out_link)) in
       let input = in_stays hop_else.to hop_else.input (λ tile place. apart
-      (sym has_else.input_link ∙ ap (λ (seen : Seen). seen.link) (same_Some has_else.input has.input (sym has_else.input_is ∙ rw (tile, place) (has.input_is))) ∙ has.input_link)) in
+      (sym has_else.input_link ∙ ap (λ (seen : Seen). seen.link)
+      (same_Some has_else.input has.input (sym has_else.input_is ∙ rw (tile, place) (has.input_is)))
+      ∙ has.input_link)) in
       holds s r (sym out ∙ at_s) (sym input ∙ at_r)

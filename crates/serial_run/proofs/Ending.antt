@@ -67,17 +67,21 @@ can_finish setup state schedule stations sound made ready =
     (rw (made.same) ready))
 
 -- stations before their first slot are at slot 0
-pub fresh_low : (world : World) (loads : List LoadName) (until : ℕ) (stations : List Station) → AreFreshStations world loads stations
+pub fresh_low : (world : World) (loads : List LoadName) (until : ℕ) (stations : List Station)
+    → AreFreshStations world loads stations
     → All (λ station. station.tile.at ≤ until) stations
 fresh_low world loads until stations fresh =
     let Low = λ (tile : TileState). tile.at ≤ until in
     all_unmap Low (λ (station : Station). station.tile) stations
     (subst (All Low) (sym fresh.tiles) (All-map Low (fresh_tile world loads) (range_with_len 0 world.platform.tiles)
-    (λ k d inside. let at = fresh_at world loads (get_or (range_with_len 0 world.platform.tiles) k d) in omega (arith, at))))
+    (λ k d inside. let at = fresh_at world loads (get_or (range_with_len 0 world.platform.tiles) k d) in
+    omega (arith, at))))
 
 -- the stations that a run ends with are in step by the grants of its history
-pub ends_in_step : (setup : Setup) (state : ManagerState) (schedule : Schedule) (old new stations : List Station) (history : List Entry)
-    → state.setup ≡ setup → schedule.grants.items ≡ grants_of state.setup state.history → history ≡ state.history → stations ≡ new
+pub ends_in_step : (setup : Setup) (state : ManagerState) (schedule : Schedule) (old new stations : List Station)
+    (history : List Entry)
+    → state.setup ≡ setup → schedule.grants.items ≡ grants_of state.setup state.history → history ≡ state.history
+    → stations ≡ new
     → FinishesInStep setup.world schedule.grants.items setup.budget old new
     → HaveRun setup.world setup.loads schedule.grants.items (map station_state old)
     → AreInStep setup.world setup.loads (grants_of setup history) setup.budget stations

@@ -28,7 +28,8 @@ use Rattle.serial_run.proofs.Ends.{out_found, in_found, out_there, in_there}
 use Rattle.serial_run.proofs.Spots.{AreApartAt, end_link, flits_there}
 use Rattle.serial_run.proofs.Stepped.{mapped_at}
 
-enter_alike : (one other : Link) → one.to ≡ other.to → one.input ≡ other.input → enters_alike (raw_link one) (raw_link other) ≡ true
+enter_alike : (one other : Link) → one.to ≡ other.to → one.input ≡ other.input
+    → enters_alike (raw_link one) (raw_link other) ≡ true
 enter_alike one other to input =
     and_from (int_eq (pos one.to) (pos other.to)) (int_eq (pos one.input) (pos other.input))
     (numbers_equal one.to other.to to) (numbers_equal one.input other.input input)
@@ -46,11 +47,13 @@ one_entry platform l m one other at_l at_m to input = elim (cases_order l m) [
       behind (raw_at platform m other at_m) (raw_at platform l one at_l) (enter_alike other one (sym to) (sym input)))
 ]
 
-pub on_output : (tile : ℕ) (link : Link) (place : ℕ) → output_on tile link ≡ Some place → (link.from ≡ tile) × (link.out ≡ place)
+pub on_output : (tile : ℕ) (link : Link) (place : ℕ) → output_on tile link ≡ Some place
+    → (link.from ≡ tile) × (link.out ≡ place)
 on_output tile link place is =
     let both = cond_some (link.from == tile) link.out place is in (eqb-true link.from tile both.0, both.1)
 
-pub on_input : (tile : ℕ) (link : Link) (place : ℕ) → input_on tile link ≡ Some place → (link.to ≡ tile) × (link.input ≡ place)
+pub on_input : (tile : ℕ) (link : Link) (place : ℕ) → input_on tile link ≡ Some place
+    → (link.to ≡ tile) × (link.input ≡ place)
 on_input tile link place is =
     let both = cond_some (link.to == tile) link.input place is in (eqb-true link.to tile both.0, both.1)
 
@@ -70,21 +73,27 @@ pub contained : {X : Type 0} (xs : List X) (k : ℕ) (x : X) → slice_get xs k 
 contained xs k x at = (k, slice_get_within xs k x at, get_or_from_slice_get xs k x x at)
 
 -- the station of a tile has run by itself, and has its number
-pub record IsRunAt (world : World) (loads : List LoadName) (grants : List Grant) (tile : ℕ) (station : Station) : Type 0 where
+pub record IsRunAt (world : World) (loads : List LoadName) (grants : List Grant) (tile : ℕ) (station : Station)
+    : Type 0 where
   pub run : HasRun world loads grants (station_state station)
   pub number : station.tile.number ≡ tile
 
-number_at : (states : List StationState) (tiles k : ℕ) (state : StationState) → map (λ state. state.tile.number) states ≡ range_with_len 0 tiles
+number_at : (states : List StationState) (tiles k : ℕ) (state : StationState)
+    → map (λ state. state.tile.number) states ≡ range_with_len 0 tiles
     → slice_get states k ≡ Some state → state.tile.number ≡ k
 number_at states tiles k state order at =
     let number = λ (s : StationState). s.tile.number in
     let inside = slice_get_within states k state at in
-    let long : length states ≡ tiles = sym (length-map states number) ∙ ap length order ∙ length-range_with_len 0 tiles in
-    let read : get_or (map number states) k 0 ≡ number state = get_or-map number states k state 0 inside ∙ ap number (get_or_from_slice_get states k state state at) in
-    let counted : get_or (range_with_len 0 tiles) k 0 ≡ 0 + k = get_or-range_with_len 0 tiles k 0 (omega (arith, inside, long)) in
+    let long : length states ≡ tiles = sym (length-map states number) ∙ ap length order
+    ∙ length-range_with_len 0 tiles in
+    let read : get_or (map number states) k 0 ≡ number state =
+    get_or-map number states k state 0 inside ∙ ap number (get_or_from_slice_get states k state state at) in
+    let counted : get_or (range_with_len 0 tiles) k 0 ≡ 0 + k =
+    get_or-range_with_len 0 tiles k 0 (omega (arith, inside, long)) in
     omega (arith, read, counted, ap (λ (l : List ℕ). get_or l k 0) order)
 
-pub run_at : (world : World) (loads : List LoadName) (grants : List Grant) (stations : List Station) (tile : ℕ) (station : Station)
+pub run_at : (world : World) (loads : List LoadName) (grants : List Grant) (stations : List Station) (tile : ℕ)
+    (station : Station)
     → HaveRun world loads grants (map station_state stations) → slice_get stations tile ≡ Some station
     → IsRunAt world loads grants tile station
 run_at world loads grants stations tile station run at =
@@ -92,9 +101,11 @@ run_at world loads grants stations tile station run at =
     let state_at = mapped_at station_state stations tile station at in
     let inside = slice_get_within (map station_state stations) tile (station_state station) state_at in
     record {
-      run = subst Run (get_or_from_slice_get (map station_state stations) tile (station_state station) (station_state station) state_at)
+      run = subst Run (get_or_from_slice_get (map station_state stations) tile (station_state station)
+          (station_state station) state_at)
           (run.each tile (station_state station) inside);
-      number = number_at (map station_state stations) world.platform.tiles tile (station_state station) run.in_order state_at;
+      number = number_at (map station_state stations) world.platform.tiles tile (station_state station) run.in_order
+          state_at;
     }
 
 -- both ends of a link, and what is seen of them
@@ -129,9 +140,12 @@ module _ (world : World) (loads : List LoadName) (grants : List Grant) where
       let seen_at = mapped_at out_seen station.outs.items k wire there in
       let spot = end_link place platform.links seens run.run.wired.outs k (out_seen wire) seen_at in
       let same : spot.number ≡ number = omega (arith, spot.numbered, is) in
-      let link_same : spot.link ≡ link = same_Some spot.link link (sym spot.at ∙ ap (slice_get platform.links) same ∙ at) in
-      let out : link.out ≡ wire.place = sym (ap (λ (l : Link). l.out) link_same) ∙ (on_output station.tile.number spot.link wire.place spot.is).1 in
-      ap (flits_at seens) out ∙ flits_there place platform.links seens run.run.wired.outs (outputs_apart platform station.tile.number) k (out_seen wire) seen_at
+      let link_same : spot.link ≡ link = same_Some spot.link link
+      (sym spot.at ∙ ap (slice_get platform.links) same ∙ at) in
+      let out : link.out ≡ wire.place = sym (ap (λ (l : Link). l.out) link_same)
+      ∙ (on_output station.tile.number spot.link wire.place spot.is).1 in
+      ap (flits_at seens) out ∙ flits_there place platform.links seens run.run.wired.outs
+      (outputs_apart platform station.tile.number) k (out_seen wire) seen_at
 
   in_flits : (tile : ℕ) (station : Station) → IsRunAt world loads grants tile station → (number : ℕ) (link : Link)
       → slice_get world.platform.links number ≡ Some link → link.to ≡ tile → (k : ℕ) (wire : Wire LinkIn)
@@ -144,9 +158,12 @@ module _ (world : World) (loads : List LoadName) (grants : List Grant) where
       let seen_at = mapped_at in_seen station.ins.items k wire there in
       let spot = end_link place platform.links seens run.run.wired.ins k (in_seen wire) seen_at in
       let same : spot.number ≡ number = omega (arith, spot.numbered, is) in
-      let link_same : spot.link ≡ link = same_Some spot.link link (sym spot.at ∙ ap (slice_get platform.links) same ∙ at) in
-      let input : link.input ≡ wire.place = sym (ap (λ (l : Link). l.input) link_same) ∙ (on_input station.tile.number spot.link wire.place spot.is).1 in
-      ap (flits_at seens) input ∙ flits_there place platform.links seens run.run.wired.ins (inputs_apart platform station.tile.number) k (in_seen wire) seen_at
+      let link_same : spot.link ≡ link = same_Some spot.link link
+      (sym spot.at ∙ ap (slice_get platform.links) same ∙ at) in
+      let input : link.input ≡ wire.place = sym (ap (λ (l : Link). l.input) link_same)
+      ∙ (on_input station.tile.number spot.link wire.place spot.is).1 in
+      ap (flits_at seens) input ∙ flits_there place platform.links seens run.run.wired.ins
+      (inputs_apart platform station.tile.number) k (in_seen wire) seen_at
 
   pub joined : (stations : List Station) (hops : List Hop) → HaveRun world loads grants (map station_state stations)
       → AreHops (all_ends (map station_state stations)) world.platform.links hops → (number : ℕ) (link : Link)
@@ -160,10 +177,13 @@ module _ (world : World) (loads : List LoadName) (grants : List Grant) where
       let in_number : receiver.wire.link ≡ number = ap (λ (s : Seen). s.link) receiver.is ∙ is.ends.input_link in
       let from_at = run_at world loads grants stations hop.from sender.station run sender.at in
       let to_at = run_at world loads grants stations hop.to receiver.station run receiver.at in
-      let set = out_flits hop.from sender.station from_at number link at (sym is.from) hop.out sender.wire sender.there out_number in
-      let taken = in_flits hop.to receiver.station to_at number link at (sym is.to) hop.input receiver.wire receiver.there in_number in
+      let set = out_flits hop.from sender.station from_at number link at (sym is.from) hop.out sender.wire
+      sender.there out_number in
+      let taken = in_flits hop.to receiver.station to_at number link at (sym is.to) hop.input receiver.wire
+      receiver.there in_number in
       let inside = contained world.platform.links number link at in
-      let puts = run_puts (tile_hardware world loads) world.platform.links grants (came (map in_seen sender.station.ins.items)) link in (
+      let puts = run_puts (tile_hardware world loads) world.platform.links grants
+      (came (map in_seen sender.station.ins.items)) link in (
         hop,
         hop_at,
         record {

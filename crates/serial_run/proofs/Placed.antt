@@ -10,18 +10,21 @@ use Rattle.serial_run.specs.declared.hops.Hop.{Hop}
 use Rattle.serial_run.specs.inner.Hops.{AreHops, AllHaveEnds, HasEnds}
 
 -- what is found stands at a position
-pub some_place : {X : Type 0} (test : X → Bool) (xs : List X) (x : X) → find test xs ≡ Some x → IsSome (position test xs)
+pub some_place : {X : Type 0} (test : X → Bool) (xs : List X) (x : X) → find test xs ≡ Some x
+    → IsSome (position test xs)
 some_place test xs x is = by (position test xs) refl
   where
     by : (o : Option ℕ) → position test xs ≡ o → IsSome o
     by None none = absurd (none-some x (sym (none_found test xs (λ k y at. no_place test xs k y none at)) ∙ is))
     by (Some k) place = refl
 
-pub placed : {X : Type 0} (test : X → Bool) (xs : List X) (x : X) (k : ℕ) → find test xs ≡ Some x → position test xs ≡ Some k
+pub placed : {X : Type 0} (test : X → Bool) (xs : List X) (x : X) (k : ℕ) → find test xs ≡ Some x
+    → position test xs ≡ Some k
     → (slice_get xs k ≡ Some x) × (test x ≡ true)
 placed test xs x k is place =
     let (y, y_at, passes) = passing_place test xs k place in
-    let at : slice_get xs k ≡ Some x = ap (slice_get xs) (sym (cond_some _ (position_or_len test xs) k place).1) ∙ sym (find_at test xs) ∙ is in
+    let at : slice_get xs k ≡ Some x = ap (slice_get xs) (sym (cond_some _ (position_or_len test xs) k place).1)
+    ∙ sym (find_at test xs) ∙ is in
     let same : y ≡ x = same_Some y x (sym y_at ∙ at) in
     (at, ap test (sym same) ∙ passes)
 

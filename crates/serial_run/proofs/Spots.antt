@@ -15,7 +15,8 @@ pub record IsSpot (place : Link → Option ℕ) (first : ℕ) (links : List Link
   pub is : place link ≡ Some spot.place
   pub numbered : spot.link ≡ first + number
 
-later : (place : Link → Option ℕ) (first : ℕ) (link : Link) (links : List Link) (spot : Spot) → IsSpot place (first + 1) links spot → IsSpot place first (link ∷ links) spot
+later : (place : Link → Option ℕ) (first : ℕ) (link : Link) (links : List Link) (spot : Spot)
+    → IsSpot place (first + 1) links spot → IsSpot place first (link ∷ links) spot
 later place first link links spot is = record {
   number = suc is.number;
   link = is.link;
@@ -27,10 +28,13 @@ later place first link links spot is = record {
 pub spot_at : (place : Link → Option ℕ) (first : ℕ) (links : List Link) (k : ℕ) (spot : Spot)
     → slice_get (spots place first links) k ≡ Some spot → IsSpot place first links spot
 spot_at place first [] k spot there = absurd (none-some spot there)
-spot_at place first (link ∷ links) k spot there = by (place link) refl k there (λ j at. spot_at place (first + 1) links j spot at)
+spot_at place first (link ∷ links) k spot there =
+    by (place link) refl k there (λ j at. spot_at place (first + 1) links j spot at)
   where
-    by : (o : Option ℕ) → place link ≡ o → (k : ℕ) → slice_get (spots_from first o (spots place (first + 1) links)) k ≡ Some spot
-        → ((j : ℕ) → slice_get (spots place (first + 1) links) j ≡ Some spot → IsSpot place (first + 1) links spot) → IsSpot place first (link ∷ links) spot
+    by : (o : Option ℕ) → place link ≡ o → (k : ℕ)
+        → slice_get (spots_from first o (spots place (first + 1) links)) k ≡ Some spot
+        → ((j : ℕ) → slice_get (spots place (first + 1) links) j ≡ Some spot → IsSpot place (first + 1) links spot)
+        → IsSpot place first (link ∷ links) spot
     by None is k there rest = later place first link links spot (rest k there)
     by (Some p) is zero there rest =
         let same : record { link = first; place = p } ≡ spot = same_Some _ spot there in record {
@@ -53,12 +57,14 @@ spot_once place first (link ∷ links) i j one other at_i at_j same =
     past : (k : ℕ) (spot : Spot) → slice_get (spots place (first + 1) links) k ≡ Some spot → first < spot.link
     past k spot there = let is = spot_at place (first + 1) links k spot there in omega (arith, is.numbered)
 
-    here : (p : ℕ) (spot : Spot) → ◌≡◌ {A = Option Spot} (Some (record { link = first; place = p })) (Some spot) → first ≡ spot.link
+    here : (p : ℕ) (spot : Spot) → ◌≡◌ {A = Option Spot} (Some (record { link = first; place = p })) (Some spot)
+        → first ≡ spot.link
     here p spot is = ap (λ (s : Spot). s.link) (same_Some _ spot is)
 
     by : (o : Option ℕ) (i j : ℕ) → slice_get (spots_from first o (spots place (first + 1) links)) i ≡ Some one
         → slice_get (spots_from first o (spots place (first + 1) links)) j ≡ Some other
-        → ((k l : ℕ) → slice_get (spots place (first + 1) links) k ≡ Some one → slice_get (spots place (first + 1) links) l ≡ Some other → k ≡ l) → i ≡ j
+        → ((k l : ℕ) → slice_get (spots place (first + 1) links) k ≡ Some one
+        → slice_get (spots place (first + 1) links) l ≡ Some other → k ≡ l) → i ≡ j
     by None i j at_i at_j rest = rest i j at_i at_j
     by (Some p) zero zero at_i at_j rest = refl
     by (Some p) zero (suc j) at_i at_j rest = absurd (omega (arith, here p one at_i, past j other at_j))
@@ -71,9 +77,12 @@ AreApartAt place links =
     (l m : ℕ) (one other : Link) (at : ℕ) → slice_get links l ≡ Some one → slice_get links m ≡ Some other
     → place one ≡ Some at → place other ≡ Some at → l ≡ m
 
-module _ (place : Link → Option ℕ) (links : List Link) (ends : List Seen) (wired : map spot_of ends ≡ spots place 0 links) where
-  seen_spot : (k : ℕ) (seen : Seen) → slice_get ends k ≡ Some seen → slice_get (spots place 0 links) k ≡ Some (spot_of seen)
-  seen_spot k seen there = ap (λ (l : List Spot). slice_get l k) (sym wired) ∙ slice_get-map spot_of ends k ∙ ap (λ o. map_it o) there
+module _ (place : Link → Option ℕ) (links : List Link) (ends : List Seen)
+    (wired : map spot_of ends ≡ spots place 0 links) where
+  seen_spot : (k : ℕ) (seen : Seen) → slice_get ends k ≡ Some seen
+      → slice_get (spots place 0 links) k ≡ Some (spot_of seen)
+  seen_spot k seen there = ap (λ (l : List Spot). slice_get l k) (sym wired) ∙ slice_get-map spot_of ends k
+      ∙ ap (λ o. map_it o) there
     where
       map_it : Option Seen → Option Spot
       map_it None = None
@@ -99,5 +108,6 @@ module _ (place : Link → Option ℕ) (links : List Link) (ends : List Seen) (w
       let one = end_link k seen there in
       let two = end_link j other at_j in
       let same : other.place ≡ seen.place = eqb-true other.place seen.place passes in
-      let numbers = apart two.number one.number two.link one.link seen.place two.at one.at (two.is ∙ ap (λ (p : ℕ). Some p) same) one.is in
+      let numbers = apart two.number one.number two.link one.link seen.place two.at one.at
+      (two.is ∙ ap (λ (p : ℕ). Some p) same) one.is in
       end_once j k other seen at_j there (omega (arith, two.numbered, one.numbered, numbers))))

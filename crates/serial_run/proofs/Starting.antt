@@ -29,11 +29,13 @@ front_places stations links hops places number link at =
     let (hop, hop_at, is) = places number link at in
     (hop, front_at hops (length links) number (slice_get_within links number link at) ∙ hop_at, is)
 
-module _ (world : World) (schedule : Schedule) (until : ℕ) (old new : List Station) (can : CanFinish world schedule until old)
+module _ (world : World) (schedule : Schedule) (until : ℕ) (old new : List Station)
+    (can : CanFinish world schedule until old)
     (seen : map station_state new ≡ map station_state old) where
   all_underway : All (λ station. IsUnderway world schedule station.tile) old
   all_underway k d inside =
-      run_underway world can.loads schedule (station_state (get_or old k d)) can.sound can.apart can.of_loads can.bounded
+      run_underway world can.loads schedule (station_state (get_or old k d)) can.sound can.apart can.of_loads
+      can.bounded
       (all_unmap (HasRun world can.loads schedule.grants.items) station_state old can.run.each k d inside)
 
   pub going_first : (hops : List Hop) → AreHops (all_ends (map station_state old)) world.platform.links hops

@@ -20,7 +20,8 @@ use Rattle.serial_run.specs.inner.Going.{raised, Steps, AreGoing, KeepRuns, Stay
 use Rattle.serial_run.proofs.Ends.{then_some, out_there, in_there}
 
 -- an image stands where its item does
-pub mapped_at : {X Y : Type 0} (f : X → Y) (xs : List X) (k : ℕ) (x : X) → slice_get xs k ≡ Some x → slice_get (map f xs) k ≡ Some (f x)
+pub mapped_at : {X Y : Type 0} (f : X → Y) (xs : List X) (k : ℕ) (x : X) → slice_get xs k ≡ Some x
+    → slice_get (map f xs) k ≡ Some (f x)
 mapped_at f xs k x at = slice_get-map f xs k ∙ ap (option_map f) at
 
 -- what holds of each image holds of what it is the image of
@@ -31,7 +32,8 @@ all_unmap P f (y ∷ ys) all =
     (all_unmap P f ys (All-tail P (f y) (map f ys) all))
 
 -- where the same is seen of two lists, one has an item where the other has
-pub item_before : {X S Z : Type 0} (f : X → S) (g : S → Z) (xs ys : List X) → map g (map f ys) ≡ map g (map f xs) → (k : ℕ) (y : X)
+pub item_before : {X S Z : Type 0} (f : X → S) (g : S → Z) (xs ys : List X) → map g (map f ys) ≡ map g (map f xs)
+    → (k : ℕ) (y : X)
     → slice_get ys k ≡ Some y → (x : X) × (slice_get xs k ≡ Some x)
 item_before f g xs ys same k y at =
     let there = ap (λ zs. slice_get zs k) (sym same) ∙ mapped_at g (map f ys) k (f y) (mapped_at f ys k y at) in
@@ -40,10 +42,12 @@ item_before f g xs ys same k y at =
     (x, x_at)
 
 ring_but_flits : (seens : List Seen) (number : ℕ) → ring_of (map but_flits seens) number ≡ ring_of seens number
-ring_but_flits seens number = by (find (λ seen. seen.link == number) seens) (find_map but_flits (λ seen. seen.link == number) seens)
+ring_but_flits seens number = by (find (λ seen. seen.link == number) seens)
+    (find_map but_flits (λ seen. seen.link == number) seens)
   where
     by : (o : Option Seen) → find (λ seen. seen.link == number) (map but_flits seens) ≡ option_map but_flits o
-        → option_map (λ (seen : Seen). seen.ring) (find (λ seen. seen.link == number) (map but_flits seens)) ≡ option_map (λ (seen : Seen). seen.ring) o
+        → option_map (λ (seen : Seen). seen.ring) (find (λ seen. seen.link == number) (map but_flits seens))
+        ≡ option_map (λ (seen : Seen). seen.ring) o
     by None is = ap (option_map (λ (seen : Seen). seen.ring)) is
     by (Some seen) is = ap (option_map (λ (seen : Seen). seen.ring)) is
 
@@ -52,30 +56,39 @@ written_by_ends : (states : List StationState) (tile number : ℕ) → written_r
 written_by_ends states tile number = by (slice_get states tile) (slice_get-map ends_of states tile)
   where
     by : (o : Option StationState) → slice_get (map ends_of states) tile ≡ option_map ends_of o
-        → option_and_then (λ (s : StationState). ring_of s.outs number) o ≡ option_and_then (λ (e : Ends). ring_of e.outs number) (slice_get (map ends_of states) tile)
+        → option_and_then (λ (s : StationState). ring_of s.outs number) o
+        ≡ option_and_then (λ (e : Ends). ring_of e.outs number) (slice_get (map ends_of states) tile)
     by None is = sym (ap (option_and_then (λ (e : Ends). ring_of e.outs number)) is)
-    by (Some state) is = sym (ring_but_flits state.outs number) ∙ sym (ap (option_and_then (λ (e : Ends). ring_of e.outs number)) is)
+    by (Some state) is = sym (ring_but_flits state.outs number)
+        ∙ sym (ap (option_and_then (λ (e : Ends). ring_of e.outs number)) is)
 
 read_by_ends : (states : List StationState) (tile number : ℕ) → read_ring states tile number
     ≡ option_and_then (λ (e : Ends). ring_of e.ins number) (slice_get (all_ends states) tile)
 read_by_ends states tile number = by (slice_get states tile) (slice_get-map ends_of states tile)
   where
     by : (o : Option StationState) → slice_get (map ends_of states) tile ≡ option_map ends_of o
-        → option_and_then (λ (s : StationState). ring_of s.ins number) o ≡ option_and_then (λ (e : Ends). ring_of e.ins number) (slice_get (map ends_of states) tile)
+        → option_and_then (λ (s : StationState). ring_of s.ins number) o
+        ≡ option_and_then (λ (e : Ends). ring_of e.ins number) (slice_get (map ends_of states) tile)
     by None is = sym (ap (option_and_then (λ (e : Ends). ring_of e.ins number)) is)
-    by (Some state) is = sym (ring_but_flits state.ins number) ∙ sym (ap (option_and_then (λ (e : Ends). ring_of e.ins number)) is)
+    by (Some state) is = sym (ring_but_flits state.ins number)
+        ∙ sym (ap (option_and_then (λ (e : Ends). ring_of e.ins number)) is)
 
 -- links are rings as long as the ends are the same
-pub linked_same : (links : List Link) (old new : List StationState) → all_ends new ≡ all_ends old → AreLinked links old → AreLinked links new
+pub linked_same : (links : List Link) (old new : List StationState) → all_ends new ≡ all_ends old
+    → AreLinked links old → AreLinked links new
 linked_same links old new same linked number link at =
     let (some, one) = linked number link at in
     let written : written_ring new link.from number ≡ written_ring old link.from number =
-    written_by_ends new link.from number ∙ ap (λ ends. option_and_then (λ (e : Ends). ring_of e.outs number) (slice_get ends link.from)) same ∙ sym (written_by_ends old link.from number) in
+    written_by_ends new link.from number ∙ ap
+    (λ ends. option_and_then (λ (e : Ends). ring_of e.outs number) (slice_get ends link.from)) same
+    ∙ sym (written_by_ends old link.from number) in
     let read : read_ring new link.to number ≡ read_ring old link.to number =
-    read_by_ends new link.to number ∙ ap (λ ends. option_and_then (λ (e : Ends). ring_of e.ins number) (slice_get ends link.to)) same ∙ sym (read_by_ends old link.to number) in
+    read_by_ends new link.to number ∙ ap (λ ends. option_and_then (λ (e : Ends). ring_of e.ins number)
+    (slice_get ends link.to)) same ∙ sym (read_by_ends old link.to number) in
     (rw (written) some, rw (read, written) one)
 
-pub numbers_by_ends : (states : List StationState) → map (λ state. state.tile.number) states ≡ map (λ (e : Ends). e.number) (all_ends states)
+pub numbers_by_ends : (states : List StationState)
+    → map (λ state. state.tile.number) states ≡ map (λ (e : Ends). e.number) (all_ends states)
 numbers_by_ends [] = refl
 numbers_by_ends (state ∷ states) = ap (λ numbers. state.tile.number ∷ numbers) (numbers_by_ends states)
 
@@ -109,24 +122,32 @@ module _ (world : World) (schedule : Schedule) (slot : ℕ) where
   pub zip_lines : (hops : List Hop) (old new : List Station) → AllZip (Steps world schedule slot) old new
       → AllAtEnds IsCarried old hops → AllAtEnds StandInLine new hops
   zip_lines hops old new steps carried number hop at s r at_s at_r =
-      let (to_s, to_s_at, s_is) = then_some (λ (station : Station). slice_get station.outs.items hop.out) (slice_get new hop.from) s at_s in
-      let (to_r, to_r_at, r_is) = then_some (λ (station : Station). slice_get station.ins.items hop.input) (slice_get new hop.to) r at_r in
+      let (to_s, to_s_at, s_is) = then_some (λ (station : Station). slice_get station.outs.items hop.out)
+      (slice_get new hop.from) s at_s in
+      let (to_r, to_r_at, r_is) = then_some (λ (station : Station). slice_get station.ins.items hop.input)
+      (slice_get new hop.to) r at_r in
       let (of_s, of_s_at, s_steps) = zip_at old new steps hop.from to_s to_s_at in
       let (of_r, of_r_at, r_steps) = zip_at old new steps hop.to to_r to_r_at in
-      let (s_old, s_old_is) = item_before out_seen but_flits of_s.outs.items to_s.outs.items (ap (λ (e : Ends). e.outs) s_steps.ends) hop.out s s_is in
-      let (r_old, r_old_is) = item_before in_seen but_flits of_r.ins.items to_r.ins.items (ap (λ (e : Ends). e.ins) r_steps.ends) hop.input r r_is in
+      let (s_old, s_old_is) = item_before out_seen but_flits of_s.outs.items to_s.outs.items
+      (ap (λ (e : Ends). e.outs) s_steps.ends) hop.out s s_is in
+      let (r_old, r_old_is) = item_before in_seen but_flits of_r.ins.items to_r.ins.items
+      (ap (λ (e : Ends). e.ins) r_steps.ends) hop.input r r_is in
       let line = (carried number hop at s_old r_old (out_there old hop.from hop.out of_s s_old of_s_at s_old_is)
       (in_there old hop.to hop.input of_r r_old of_r_at r_old_is)).line in
-      r_steps.lines.ins hop.input r_old r r_old_is r_is s.end (s_steps.lines.outs hop.out s_old s s_old_is s_is r_old.end line)
+      r_steps.lines.ins hop.input r_old r r_old_is r_is s.end
+      (s_steps.lines.outs hop.out s_old s s_old_is s_is r_old.end line)
 
   -- stations that had run by themselves have still
-  pub zip_runs : (old new : List Station) → AllZip (Steps world schedule slot) old new → KeepRuns world schedule.grants.items old new
+  pub zip_runs : (old new : List Station) → AllZip (Steps world schedule slot) old new
+      → KeepRuns world schedule.grants.items old new
   zip_runs old new steps loads run =
       let ends = zip_ends old new steps in
       let Run = HasRun world loads schedule.grants.items in record {
-        in_order = numbers_by_ends (map station_state new) ∙ ap (map (λ (e : Ends). e.number)) ends ∙ sym (numbers_by_ends (map station_state old)) ∙ run.in_order;
+        in_order = numbers_by_ends (map station_state new) ∙ ap (map (λ (e : Ends). e.number)) ends
+            ∙ sym (numbers_by_ends (map station_state old)) ∙ run.in_order;
         each = All-map Run station_state new
-            (zip_all (λ s. Run (station_state s)) (λ s. Run (station_state s)) (λ x y step was. step.run loads was) old new steps
+            (zip_all (λ s. Run (station_state s)) (λ s. Run (station_state s)) (λ x y step was. step.run loads was)
+            old new steps
             (all_unmap Run station_state old run.each));
         linked = linked_same world.platform.links (map station_state old) (map station_state new) ends run.linked;
       }
@@ -160,20 +181,25 @@ module _ (world : World) (schedule : Schedule) (hops : List Hop) (slot : ℕ) (o
   round_within until low most =
       seen_all (λ tile. tile.at ≤ until) mid new seen
       (zip_all world schedule slot (λ s. s.tile.at ≤ until) (λ s. s.tile.at ≤ until)
-      (λ x y step was. let at : raised slot x.tile.at ≤ until = raised_within slot x.tile.at until low was in omega (arith, step.at, at)) old mid steps most)
+      (λ x y step was. let at : raised slot x.tile.at ≤ until = raised_within slot x.tile.at until low was in
+      omega (arith, step.at, at)) old mid steps most)
 
-  pub round_going : AreGoing world schedule hops slot old → AllAtEnds IsCarried new hops → AreGoing world schedule hops (slot + 1) new
+  pub round_going : AreGoing world schedule hops slot old → AllAtEnds IsCarried new hops
+      → AreGoing world schedule hops (slot + 1) new
   round_going going carried =
       let Hops = λ (states : List StationState). AreHops (all_ends states) world.platform.links hops in
       let Under = IsUnderway world schedule in record {
         loads = going.loads;
         run = round_runs going.loads going.run;
         underway = seen_all Under mid new seen
-            (zip_all world schedule slot (λ s. Under s.tile) (λ s. Under s.tile) (λ x y step was. step.underway) old mid steps going.underway);
+            (zip_all world schedule slot (λ s. Under s.tile) (λ s. Under s.tile) (λ x y step was. step.underway) old
+            mid steps going.underway);
         least = seen_all (λ tile. slot + 1 ≤ tile.at) mid new seen
             (zip_all world schedule slot (λ s. slot ≤ s.tile.at) (λ s. slot + 1 ≤ s.tile.at)
-            (λ x y step was. let at : slot + 1 ≤ raised slot x.tile.at = raised_least slot x.tile.at was in omega (arith, step.at, at)) old mid steps going.least);
-        places = subst (λ ends. AreHops ends world.platform.links hops) (sym (ap all_ends seen ∙ zip_ends world schedule slot old mid steps)) going.places;
+            (λ x y step was. let at : slot + 1 ≤ raised slot x.tile.at = raised_least slot x.tile.at was in
+            omega (arith, step.at, at)) old mid steps going.least);
+        places = subst (λ ends. AreHops ends world.platform.links hops)
+            (sym (ap all_ends seen ∙ zip_ends world schedule slot old mid steps)) going.places;
         as_many = going.as_many;
         carried = carried;
       }

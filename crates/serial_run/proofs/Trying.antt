@@ -23,7 +23,8 @@ pub one_underway : (world : World) (schedule : Schedule) (until : ℕ) (stations
     → IsUnderway world schedule (get_or stations k d).tile
 one_underway world schedule until stations can k d inside =
     run_underway world can.loads schedule (station_state (get_or stations k d)) can.sound can.apart can.of_loads
-    can.bounded (all_unmap (HasRun world can.loads schedule.grants.items) station_state stations can.run.each k d inside)
+    can.bounded (all_unmap (HasRun world can.loads schedule.grants.items) station_state stations can.run.each k
+    d inside)
 
 ends_once : (stations : List Station)
     → all_ends (map station_state stations) ≡ map (λ station. ends_of (station_state station)) stations
@@ -62,12 +63,14 @@ module _ (world : World) (schedule : Schedule) (stations : List Station) (k : �
         loads = can.loads;
         sound = can.sound;
         run = record {
-          in_order = numbers_by_ends now ∙ ap (map (λ (e : Ends). e.number)) same_ends ∙ sym (numbers_by_ends old) ∙ can.run.in_order;
+          in_order = numbers_by_ends now ∙ ap (map (λ (e : Ends). e.number)) same_ends ∙ sym (numbers_by_ends old)
+              ∙ can.run.in_order;
           each = All-map (HasRun world can.loads schedule.grants.items) station_state (set stations k new)
               (All-set Run stations k new (run can.loads (was k d inside)) was);
           linked = linked_same world.platform.links old now same_ends can.run.linked;
         };
-        low = All-set Low stations k new (tried_low world schedule (get_or stations k d) new turn tries (can.low k d inside)) can.low;
+        low = All-set Low stations k new (tried_low world schedule (get_or stations k d) new turn tries
+            (can.low k d inside)) can.low;
         apart = can.apart;
         of_loads = can.of_loads;
         reached = can.reached;

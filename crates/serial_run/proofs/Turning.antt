@@ -28,4 +28,5 @@ module _ {X : Type 0} where
       let At = λ (x : X). R x y in
       subst Front (sym (take_more xs i d (omega (arith, inside, long))))
       (subst Now (sym (take_more_set ys i y inside))
-      (all_zipped_more R (take i xs) (take i ys) (get_or xs i d) y before (subst At (next_same xs ys i d inside long rest) here)))
+      (all_zipped_more R (take i xs) (take i ys) (get_or xs i d) y before
+      (subst At (next_same xs ys i d inside long rest) here)))

@@ -58,7 +58,8 @@ fn carry_at(
 )
     requires out { out < length outs.old }
     requires input { input < length ins.old }
-    requires can { (s : Wire LinkOut) (r : Wire LinkIn) → slice_get outs.old out ≡ Some s → slice_get ins.old input ≡ Some r → CanCarry in_line s r }
+    requires can { (s : Wire LinkOut) (r : Wire LinkIn) → slice_get outs.old out ≡ Some s
+        → slice_get ins.old input ≡ Some r → CanCarry in_line s r }
     ensures { CarriesAt outs.old outs.new out ins.old ins.new input }
 {
     let sender = &mut outs[out];

@@ -24,37 +24,46 @@ use Rattle.soc_top.specs.Check.{checked_order, check_order, check_inputs, verdic
 use Rattle.soc_top.proofs.Exchanges.{exchange_of}
 use Rattle.soc_top.proofs.Turns.{run_memory}
 
-ended : (told : Option Held) (read read_now : ℕ) (old new : Option (List ℕ)) (before now : ℕ) (order : Order)
-    (texts : Texts) (IsText : List ℕ → Type 0) (inputs : List Input) (ending : Ending)
-    → AreRead told order inputs → ((text : List ℕ) → IsText text → texts inputs text)
-    → Cause told read read_now order NoMemory → Concludes IsText old before new now ending
-    → Ends (exchange_of told read read_now old new before now) order texts ending
-ended told read read_now old new before now order texts IsText inputs Done gives makes memory (text, is, written) =
-    (text, (inputs, gives, makes text is), written)
-ended told read read_now old new before now order texts IsText inputs Unwritten gives makes memory
-    (text, is, front, rose) = (text, (inputs, gives, makes text is), front, rose)
-ended told read read_now old new before now order texts IsText inputs (Refused fault) gives makes memory (is, says) =
-    (subst (Cause told read read_now order) (sym is) memory, says)
+-- How the readings and the writings of a request went: what files and sink hold, and their counts of faults,
+-- before and after.
+module _ (told : Option Held) (read read_now : ℕ) (old new : Option (List ℕ)) (before now : ℕ) where
+  -- by the inputs that the files gave, of which each text that the ending tells of is made
+  ended : (order : Order) (texts : Texts) (IsText : List ℕ → Type 0) (inputs : List Input) (ending : Ending)
+      → AreRead told order inputs → ((text : List ℕ) → IsText text → texts inputs text)
+      → Cause told read read_now order NoMemory → Concludes IsText old before new now ending
+      → Ends (exchange_of told read read_now old new before now) order texts ending
+  ended order texts IsText inputs Done gives makes memory (text, is, written) =
+      (text, (inputs, gives, makes text is), written)
+  ended order texts IsText inputs Unwritten gives makes memory (text, is, front, rose) =
+      (text, (inputs, gives, makes text is), front, rose)
+  ended order texts IsText inputs (Refused fault) gives makes memory (is, says) =
+      (subst (Cause told read read_now order) (sym is) memory, says)
 
-pub alone_ended : (told : Option Held) (read read_now : ℕ) (old new : Option (List ℕ)) (before now : ℕ)
-    (request : AloneWords) (inputs : Inputs) (ending : Ending)
-    → AreRead told (alone_order request) (alone_inputs request inputs.platform inputs.bundle)
-    → Concludes (IsAloneText request inputs.platform inputs.bundle) old before new now ending
-    → Ends (exchange_of told read read_now old new before now) (alone_order request) (AloneTexts request) ending
-alone_ended told read read_now old new before now request inputs ending gives concludes =
-    ended told read read_now old new before now (alone_order request) (AloneTexts request)
-    (IsAloneText request inputs.platform inputs.bundle) (alone_inputs request inputs.platform inputs.bundle) ending
-    gives (λ text is. (inputs.platform, (inputs.bundle, refl, is)))
-    (PlatformWant request.platform, ([], (bundle_order request, refl)), tt) concludes
+  pub alone_ended : (request : AloneWords) (inputs : Inputs) (ending : Ending)
+      → AreRead told (alone_order request) (alone_inputs request inputs.platform inputs.bundle)
+      → Concludes (IsAloneText request inputs.platform inputs.bundle) old before new now ending
+      → Ends (exchange_of told read read_now old new before now) (alone_order request) (AloneTexts request) ending
+  alone_ended request inputs ending gives concludes =
+      ended (alone_order request) (AloneTexts request) (IsAloneText request inputs.platform inputs.bundle)
+      (alone_inputs request inputs.platform inputs.bundle) ending gives
+      (λ text is. (inputs.platform, (inputs.bundle, refl, is)))
+      (PlatformWant request.platform, ([], (bundle_order request, refl)), tt) concludes
 
-pub run_ended : (Kept : Setup → List Entry → Type 0) (told : Option Held) (read read_now : ℕ)
-    (old new : Option (List ℕ)) (before now : ℕ) (request : RunWords) (setup : Setup) (ending : Ending)
-    → GivesSetup told request setup → Concludes (IsReportOf Kept setup request.state) old before new now ending
-    → Ends (exchange_of told read read_now old new before now) (run_order request) (RunTexts Kept request) ending
-run_ended Kept told read read_now old new before now request setup ending gives concludes =
-    ended told read read_now old new before now (run_order request) (RunTexts Kept request)
-    (IsReportOf Kept setup request.state) (inputs_of setup) ending gives.0
-    (λ text is. (setup, refl, gives.1, is)) (run_memory told read read_now request) concludes
+  pub run_ended : (Kept : Setup → List Entry → Type 0) (request : RunWords) (setup : Setup) (ending : Ending)
+      → GivesSetup told request setup → Concludes (IsReportOf Kept setup request.state) old before new now ending
+      → Ends (exchange_of told read read_now old new before now) (run_order request) (RunTexts Kept request) ending
+  run_ended Kept request setup ending gives concludes =
+      ended (run_order request) (RunTexts Kept request) (IsReportOf Kept setup request.state) (inputs_of setup) ending
+      gives.0 (λ text is. (setup, refl, gives.1, is)) (run_memory told read read_now request) concludes
+
+  pub check_ended : (request : CheckWords) (platform : Platform) (catalog : List Named) (ending : Ending)
+      → AreRead told (check_order request) (check_inputs platform catalog)
+      → Concludes (λ text. text ≡ verdicts_text catalog request) old before new now ending
+      → Ends (exchange_of told read read_now old new before now) (check_order request) (CheckTexts request) ending
+  check_ended request platform catalog ending gives concludes =
+      ended (check_order request) (CheckTexts request) (λ text. text ≡ verdicts_text catalog request)
+      (check_inputs platform catalog) ending gives (λ text is. (platform, (catalog, refl, is)))
+      (PlatformWant request.platform, ([], (checked_order request, refl)), tt) concludes
 
 -- a report that was written is one of a history that is kept
 pub reported : (Kept : Setup → List Entry → Type 0) (setup : Setup) (state : Bool) (history : List Entry)
@@ -72,14 +81,3 @@ pub by_threads : (workers : ℕ) (setup : Setup) (history : List Entry) → 0 < 
     → IsComplete setup history → IsHistoryBy workers setup history
 by_threads zero setup history some legal complete = absurd (omega (arith, some))
 by_threads (suc workers) setup history some legal complete = (legal, complete)
-
-pub check_ended : (told : Option Held) (read read_now : ℕ) (old new : Option (List ℕ)) (before now : ℕ)
-    (request : CheckWords) (platform : Platform) (catalog : List Named) (ending : Ending)
-    → AreRead told (check_order request) (check_inputs platform catalog)
-    → Concludes (λ text. text ≡ verdicts_text catalog request) old before new now ending
-    → Ends (exchange_of told read read_now old new before now) (check_order request) (CheckTexts request) ending
-check_ended told read read_now old new before now request platform catalog ending gives concludes =
-    ended told read read_now old new before now (check_order request) (CheckTexts request)
-    (λ text. text ≡ verdicts_text catalog request) (check_inputs platform catalog) ending gives
-    (λ text is. (platform, (catalog, refl, is)))
-    (PlatformWant request.platform, ([], (checked_order request, refl)), tt) concludes

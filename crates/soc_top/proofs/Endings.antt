@@ -1,5 +1,5 @@
 -- From how a request ends to what its status says.
-use Rattle.std.proofs.Common.{◌≡◌, ◌∙◌, ℕ, ◌⊎◌, inl, inr, Bool, List, [], Option, Some, refl, sym, ap, subst, arith}
+use Rattle.std.proofs.Common.{◌≡◌, ℕ, ◌⊎◌, inl, inr, Bool, List, [], Option, Some, refl, ap, subst}
 use Rattle.soc_io.specs.Counts.{Rose}
 use Rattle.soc_io.specs.Reading.{Held}
 use Rattle.soc_io.specs.Writing.{Printed}
@@ -7,18 +7,18 @@ use Rattle.command_words.specs.declared.request.AloneWords.{AloneWords}
 use Rattle.command_words.specs.declared.request.CheckWords.{CheckWords}
 use Rattle.command_words.specs.declared.request.RunWords.{RunWords}
 use Rattle.soc_top.specs.declared.fault.TopFault.{TopFault}
-use Rattle.soc_top.specs.declared.fault.TopFault.TheVariants.{Platform, ScriptTooLong, Script, Bundle, Absent, Read, NoMemory}
+use Rattle.soc_top.specs.declared.fault.TopFault.TheVariants.{NoMemory}
 use Rattle.soc_top.specs.declared.ending.Ending.{Ending}
 use Rattle.soc_top.specs.declared.ending.Ending.TheVariants.{Done, Unwritten, Refused}
 use Rattle.soc_top.specs.Exchange.{Exchange, Says}
 use Rattle.soc_top.specs.Faults.{fault_line, fault_status, ending_status}
 use Rattle.soc_top.specs.Wants.Want.{PlatformWant}
 use Rattle.soc_top.specs.Order.{Order, Cause, IsDecided, IsAllowed}
-use Rattle.soc_top.specs.Answers.{Texts, IsTextOf, Ends, Answers, Concludes}
+use Rattle.soc_top.specs.Answers.{Texts, IsTextOf, Ends, Answers}
 use Rattle.soc_top.specs.Alone.{bundle_order, alone_order, AloneTexts, AloneAnswers}
 use Rattle.soc_top.specs.Run.{run_order, IsHistoryBy, RunTexts, RunAnswers}
 use Rattle.soc_top.specs.Check.{checked_order, check_order, CheckTexts, CheckAnswers}
-use Rattle.soc_top.specs.Generate.{IsSummaryOf, GenerateAnswers}
+use Rattle.soc_top.specs.Generate.{GenerateAnswers}
 use Rattle.soc_top.proofs.Stops.{undecided, one_status, as_decided}
 use Rattle.soc_top.proofs.Turns.{run_memory}
 
@@ -94,37 +94,3 @@ pub generate_short : (old : Option (List ℕ)) (before : ℕ) (new : Option (Lis
     → GenerateAnswers old before new now number 7
 generate_short old before new now number says =
     record { ending = Refused NoMemory; is_status = refl; ends = (refl, says) }
-
--- status 7 comes with its line
-memory_alone : (fault : TopFault) → 7 ≡ fault_status fault → fault ≡ NoMemory
-memory_alone (Platform rule) e = absurd (omega (arith, e))
-memory_alone (ScriptTooLong name) e = absurd (omega (arith, e))
-memory_alone (Script name fault) e = absurd (omega (arith, e))
-memory_alone (Bundle name rule) e = absurd (omega (arith, e))
-memory_alone (Absent name) e = absurd (omega (arith, e))
-memory_alone (Read name) e = absurd (omega (arith, e))
-memory_alone NoMemory e = refl
-
-line_of_seven : (e : Exchange) (order : Order) (texts : Texts) (ending : Ending) → 7 ≡ ending_status ending
-    → Ends e order texts ending → Says e (fault_line NoMemory)
-line_of_seven e order texts Done is ends = absurd (omega (arith, is))
-line_of_seven e order texts Unwritten is ends = absurd (omega (arith, is))
-line_of_seven e order texts (Refused fault) is (cause, says) =
-    subst (λ f. Says e (fault_line f)) (memory_alone fault is) says
-
-pub memory_said : (e : Exchange) (order : Order) (texts : Texts) (status : ℕ) → status ≡ 7
-    → Answers e order texts status → Says e (fault_line NoMemory)
-memory_said e order texts status is answers =
-    line_of_seven e order texts answers.ending (sym is ∙ answers.is_status) answers.ends
-
-said_by : (e : Exchange) (IsText : List ℕ → Type 0) (ending : Ending) → 7 ≡ ending_status ending
-    → Concludes IsText e.written e.write_faults e.written_now e.write_faults_now ending → Says e (fault_line NoMemory)
-said_by e IsText Done is ends = absurd (omega (arith, is))
-said_by e IsText Unwritten is ends = absurd (omega (arith, is))
-said_by e IsText (Refused fault) is (memory, says) = subst (λ f. Says e (fault_line f)) memory says
-
-pub memory_said_too : (e : Exchange) (number status : ℕ) → status ≡ 7
-    → GenerateAnswers e.written e.write_faults e.written_now e.write_faults_now number status
-    → Says e (fault_line NoMemory)
-memory_said_too e number status is answers =
-    said_by e (IsSummaryOf number) answers.ending (sym is ∙ answers.is_status) answers.ends

@@ -32,11 +32,14 @@ long_later None before mid now name later rose = rose_later before mid now later
 pub refuses_later : (told : Option Held) (before mid now : ℕ) (want : Want) (fault : TopFault) → before ≤ mid
     → Refuses told mid now want fault → Refuses told before now want fault
 refuses_later told before mid now want (BadPlatform rule) later refuses = refuses
-refuses_later told before mid now want (ScriptTooLong other) later refuses = (refuses.0, long_later told before mid now other later refuses.1)
+refuses_later told before mid now want (ScriptTooLong other) later refuses =
+    (refuses.0, long_later told before mid now other later refuses.1)
 refuses_later told before mid now want (Script other found) later refuses = refuses
 refuses_later told before mid now want (BadBundle other rule) later refuses = refuses
-refuses_later told before mid now want (Absent other) later refuses = (refuses.0, absent_later told before mid now other later refuses.1)
-refuses_later told before mid now want (Read other) later refuses = (refuses.0, rose_later before mid now later refuses.1)
+refuses_later told before mid now want (Absent other) later refuses =
+    (refuses.0, absent_later told before mid now other later refuses.1)
+refuses_later told before mid now want (Read other) later refuses =
+    (refuses.0, rose_later before mid now later refuses.1)
 refuses_later told before mid now want NoMemory later refuses = tt
 
 -- a file that is reached refuses the request

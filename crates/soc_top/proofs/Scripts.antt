@@ -12,5 +12,6 @@ in_time (Load name cycle) is = omega (arith, is.1)
 in_time (Stop load cycle) is = omega (arith, is.2)
 in_time (Until cycle) is = omega (arith, is)
 
-pub cycles_stated : (commands : List Command) → All IsStated commands → All (λ command. stated_cycle command ≤ LAST_CYCLE) commands
+pub cycles_stated : (commands : List Command) → All IsStated commands
+    → All (λ command. stated_cycle command ≤ LAST_CYCLE) commands
 cycles_stated commands all = All-weaker IsStated (λ command. stated_cycle command ≤ LAST_CYCLE) in_time commands all

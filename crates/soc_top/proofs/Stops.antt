@@ -228,7 +228,8 @@ stop_of held order (ScriptTooLong other) (want, reaches, refuses) =
 stop_of held order (Script other found) (want, reaches, (bytes, is, breaks)) =
     stop_at held order (Script other found) want reaches (stuck_broken held want (Script other found) bytes is breaks)
 stop_of held order (BadBundle other rule) (want, reaches, (bytes, is, breaks)) =
-    stop_at held order (BadBundle other rule) want reaches (stuck_broken held want (BadBundle other rule) bytes is breaks)
+    stop_at held order (BadBundle other rule) want reaches
+    (stuck_broken held want (BadBundle other rule) bytes is breaks)
 stop_of held order (Absent other) (want, reaches, (same, none)) =
     stop_at held order (Absent other) want reaches (stuck_absent held want other same none)
 stop_of held order (Read other) decided = absurd decided

@@ -1,6 +1,5 @@
 -- The readings of a run, script after script and bundle file after bundle file.
 use Rattle.std.proofs.Common.{◌≡◌, ℕ, ◌+◌, ◌-◌, ◌<◌, ◌≤◌, ◌⊎◌, inl, inr, List, [], ◌∷◌, ◌++◌, length, length-append, map, drop, get_or, Option, All, refl, sym, ap, ◌∙◌, subst, arith}
-use Rattle.std.proofs.Math.ListN.{drop_of_length-le}
 use Rattle.std.proofs.lemmas.Grind.{flat_map-append}
 use Rattle.std.proofs.lemmas.List.{append-nil, map-append, drop_more}
 use Rattle.std.proofs.lemmas.List.Elements.{All-nil, All-cons, All-append}
@@ -42,15 +41,6 @@ pub record HasScripts (told : Option Held) (names : List (List ℕ)) (i : ℕ) (
   pub each : length scripts ≡ i
   pub inside : i ≤ length names
 
-pub no_scripts : (told : Option Held) (names : List (List ℕ)) → HasScripts told names 0 [] MOST_COMMANDS
-no_scripts told names = record {
-  read = λ platform. refl;
-  room_left = refl;
-  in_time = All-nil InTime;
-  each = refl;
-  inside = omega arith;
-}
-
 commands_more : (scripts : List Script) (script : Script)
     → all_commands (scripts ++ script ∷ []) ≡ all_commands scripts ++ script.commands
 commands_more scripts script =
@@ -87,52 +77,43 @@ read_more told names i name room scripts script so_far split gives platform =
     (ScriptRead script ∷ []) (so_far.read platform) step in
     rw (map-append ScriptRead scripts (script ∷ []), commands_more scripts script) both
 
-pub one_more_script : (told : Option Held) (names : List (List ℕ)) (i : ℕ) (name : List ℕ) (room left : ℕ)
-    (scripts new : List Script)
-    → HasScripts told names i scripts room → i < length names → name ≡ get_or names i name
-    → IsAdded told name room scripts new left → HasScripts told names (i + 1) new left
-one_more_script told names i name room left scripts new so_far inside is added =
-    let script = added.script in
-    let more = commands_more scripts script in
-    let P : List Script → Type 0 = λ s. HasScripts told names (i + 1) s left in
-    subst P (sym added.appended) (record {
-      read = read_more told names i name room scripts script so_far (split_at names i name inside is) added.gives;
-      room_left =
-          let sum : length (all_commands (scripts ++ script ∷ []))
-          ≡ length (all_commands scripts) + length script.commands =
-          ap length more ∙ length-append (all_commands scripts) script.commands in
-          omega (arith, sum, so_far.room_left, added.counted);
-      in_time = All-append InTime scripts (script ∷ []) so_far.in_time
-          (All-cons InTime script [] added.in_time (All-nil InTime));
-      each = omega (arith, length-append scripts (script ∷ []), so_far.each);
-      inside = omega (arith, inside);
-    })
+-- The name at place `i` is the next one.
+module _ (told : Option Held) (names : List (List ℕ)) (i : ℕ) (name : List ℕ) (inside : i < length names)
+    (is : name ≡ get_or names i name) where
+  -- its script was read and judged
+  pub one_more_script : (room left : ℕ) (scripts new : List Script) → HasScripts told names i scripts room
+      → IsAdded told name room scripts new left → HasScripts told names (i + 1) new left
+  one_more_script room left scripts new so_far added =
+      let script = added.script in
+      let more = commands_more scripts script in
+      let P : List Script → Type 0 = λ s. HasScripts told names (i + 1) s left in
+      subst P (sym added.appended) (record {
+        read = read_more told names i name room scripts script so_far (split_at names i name inside is) added.gives;
+        room_left =
+            let sum : length (all_commands (scripts ++ script ∷ []))
+            ≡ length (all_commands scripts) + length script.commands =
+            ap length more ∙ length-append (all_commands scripts) script.commands in
+            omega (arith, sum, so_far.room_left, added.counted);
+        in_time = All-append InTime scripts (script ∷ []) so_far.in_time
+            (All-cons InTime script [] added.in_time (All-nil InTime));
+        each = omega (arith, length-append scripts (script ∷ []), so_far.each);
+        inside = omega (arith, inside);
+      })
 
-pub scripts_stop : (told : Option Held) (before mid now : ℕ) (names : List (List ℕ)) (i : ℕ) (name : List ℕ) (room : ℕ)
-    (scripts : List Script) (fault : TopFault)
-    → HasScripts told names i scripts room → i < length names → name ≡ get_or names i name → before ≤ mid
-    → Refuses told mid now (ScriptWant name room) fault → (platform : Platform)
-    → Cause told before now (scripts_order platform names []) fault
-scripts_stop told before mid now names i name room scripts fault so_far inside is later refuses platform =
-    let commands = all_commands scripts in
-    let here : Refuses told mid now (ScriptWant name (MOST_COMMANDS - length commands)) fault =
-    subst (λ r. Refuses told mid now (ScriptWant name r) fault) (room_of room (length commands) so_far.room_left)
-    refuses in
-    cause_at told before mid now (scripts_order platform names []) (map ScriptRead scripts)
-    (ScriptWant name (MOST_COMMANDS - length commands))
-    (λ script. scripts_order platform (drop (i + 1) names) (commands ++ commands_in script)) fault later
-    (subst (λ rest. Leaves told (scripts_order platform names []) (map ScriptRead scripts)
-    (scripts_order platform rest commands)) (split_at names i name inside is) (so_far.read platform)) here
-
-pub all_scripts : (told : Option Held) (names : List (List ℕ)) (i : ℕ) (scripts : List Script) (room : ℕ)
-    → HasScripts told names i scripts room → length names ≤ i → AreScripts told names scripts
-all_scripts told names i scripts room so_far whole = record {
-  read = λ platform. subst (λ rest. Leaves told (scripts_order platform names []) (map ScriptRead scripts)
-      (scripts_order platform rest (all_commands scripts))) (drop_of_length-le names whole) (so_far.read platform);
-  few = omega (arith, so_far.room_left);
-  in_time = so_far.in_time;
-  each = omega (arith, so_far.each, so_far.inside, whole);
-}
+  -- its script is why the request is refused
+  pub scripts_stop : (before mid now room : ℕ) (scripts : List Script) (fault : TopFault)
+      → HasScripts told names i scripts room → before ≤ mid → Refuses told mid now (ScriptWant name room) fault
+      → (platform : Platform) → Cause told before now (scripts_order platform names []) fault
+  scripts_stop before mid now room scripts fault so_far later refuses platform =
+      let commands = all_commands scripts in
+      let here : Refuses told mid now (ScriptWant name (MOST_COMMANDS - length commands)) fault =
+      subst (λ r. Refuses told mid now (ScriptWant name r) fault) (room_of room (length commands) so_far.room_left)
+      refuses in
+      cause_at told before mid now (scripts_order platform names []) (map ScriptRead scripts)
+      (ScriptWant name (MOST_COMMANDS - length commands))
+      (λ script. scripts_order platform (drop (i + 1) names) (commands ++ commands_in script)) fault later
+      (subst (λ rest. Leaves told (scripts_order platform names []) (map ScriptRead scripts)
+      (scripts_order platform rest commands)) (split_at names i name inside is) (so_far.read platform)) here
 
 -- likewise the bundle files
 step_bundle : (told : Option Held) (platform : Platform) (names : List (List ℕ)) (i : ℕ) (name : List ℕ) (named : Named)
@@ -158,24 +139,6 @@ one_more_bundle told platform names i name catalog new so_far inside is judged =
     (bundles_order platform (drop (i + 1) names)) (map BundleRead catalog) (BundleRead judged.named ∷ []) so_far
     step in
     rw (judged.appended, map-append BundleRead catalog (judged.named ∷ [])) both
-
-pub bundles_stop : (told : Option Held) (before mid now : ℕ) (platform : Platform) (names : List (List ℕ)) (i : ℕ)
-    (name : List ℕ) (catalog : List Named) (fault : TopFault)
-    → HasBundles told platform names i catalog → i < length names → name ≡ get_or names i name → before ≤ mid
-    → Refuses told mid now (JudgedWant platform name) fault
-    → Cause told before now (bundles_order platform names) fault
-bundles_stop told before mid now platform names i name catalog fault so_far inside is later refuses =
-    cause_at told before mid now (bundles_order platform names) (map BundleRead catalog) (JudgedWant platform name)
-    (λ bundle. bundles_order platform (drop (i + 1) names)) fault later
-    (subst (λ rest. Leaves told (bundles_order platform names) (map BundleRead catalog) (bundles_order platform rest))
-    (split_at names i name inside is) so_far) refuses
-
-pub all_bundles : (told : Option Held) (platform : Platform) (names : List (List ℕ)) (i : ℕ) (catalog : List Named)
-    → HasBundles told platform names i catalog → length names ≤ i
-    → AreRead told (bundles_order platform names) (map BundleRead catalog)
-all_bundles told platform names i catalog so_far whole =
-    subst (λ rest. Leaves told (bundles_order platform names) (map BundleRead catalog) (bundles_order platform rest))
-    (drop_of_length-le names whole) so_far
 
 -- the catalog has the files' names
 pub names_read : (told : Option Held) (platform : Platform) (names : List (List ℕ)) (catalog : List Named)

@@ -3,7 +3,7 @@ use Rattle.std.specs.Prelude.{◌≡◌, ℕ, List, [], codes, false, fold, map,
 use Rattle.soc_io.specs.Reading.{Held, with_file}
 use Rattle.workload.specs.declared.texts.NamedText.{NamedText}
 use Rattle.workload.specs.declared.texts.Texts.{Texts}
-use Rattle.workload.specs.Texts.{AreTexts, script_name}
+use Rattle.workload.specs.Texts.{AreTexts}
 use Rattle.vep_manager.specs.declared.setup.Setup.{Setup}
 use Rattle.vep_manager.specs.declared.reply.Entry.{Entry}
 use Rattle.vep_manager.specs.Legal.{IsRoundRobin}

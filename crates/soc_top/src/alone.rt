@@ -37,7 +37,8 @@ fn run<S: Sink>(alloc: Global, request: &AloneWords, inputs: &Inputs, sink: &mut
     requires in_form { IsAloneInForm request.now }
     requires well_formed { IsWellFormed inputs.now.platform inputs.now.bundle }
     ensures counted { S.faults sink.old ≤ S.faults sink.new }
-    ensures concludes { Concludes (IsAloneText request.now inputs.now.platform inputs.now.bundle) (S.written sink.old) (S.faults sink.old) (S.written sink.new) (S.faults sink.new) result }
+    ensures concludes { Concludes (IsAloneText request.now inputs.now.platform inputs.now.bundle) (S.written sink.old)
+        (S.faults sink.old) (S.written sink.new) (S.faults sink.new) result }
 {
     let (start, end) = span(&inputs.platform, request);
     let Ok(trace) = alone(alloc, &inputs.platform, &inputs.bundle, start, end) else {
@@ -64,7 +65,8 @@ fn end<F: Files, S: Sink>(
     sink: &mut S,
 ) -> Ending
     requires { IsAloneInForm request.now }
-    ensures { Ends (exchanged F.holds F.faults S.written S.faults files.old files.new sink.old sink.new) (alone_order request.now) (AloneTexts request.now) result }
+    ensures { Ends (exchanged F.holds F.faults S.written S.faults files.old files.new sink.old sink.new)
+        (alone_order request.now) (AloneTexts request.now) result }
 {
     match load(alloc, request, files) {
         Ok(inputs) => run(alloc, request, &inputs, sink),
@@ -85,7 +87,8 @@ pub fn alone_call<F: Files, S: Sink>(
     sink: &mut S,
 ) -> u8
     requires { IsAloneInForm request.now }
-    ensures { AloneAnswers (exchanged F.holds F.faults S.written S.faults files.old files.new sink.old sink.new) request.now result }
+    ensures { AloneAnswers (exchanged F.holds F.faults S.written S.faults files.old files.new sink.old sink.new)
+        request.now result }
 {
     code(&end(alloc, request, files, sink))
 }

@@ -77,9 +77,12 @@ fn add_bundle<F: Files>(
 ) -> Result<(), TopFault>
     ensures same { F.holds files.new ≡ F.holds files.old }
     ensures counted { F.faults files.old ≤ F.faults files.new }
-    ensures judged { OnOk result (IsJudged (F.holds files.old) platform.now name.now catalog.old.items catalog.new.items) }
-    ensures sound { OnOk result (AreWellFormed platform.now catalog.old.items → AreWellFormed platform.now catalog.new.items) }
-    ensures refused { IfErr result (Refuses (F.holds files.old) (F.faults files.old) (F.faults files.new) (JudgedWant platform.now name.now)) }
+    ensures judged { OnOk result (IsJudged (F.holds files.old) platform.now name.now catalog.old.items
+        catalog.new.items) }
+    ensures sound { OnOk result (AreWellFormed platform.now catalog.old.items
+        → AreWellFormed platform.now catalog.new.items) }
+    ensures refused { IfErr result (Refuses (F.holds files.old) (F.faults files.old) (F.faults files.new)
+        (JudgedWant platform.now name.now)) }
 {
     let named = match load_bundle(alloc, platform, name, files) {
         Ok(named) => named,
@@ -101,9 +104,11 @@ pub fn read_catalog<F: Files>(
 ) -> Result<Vec<Named>, TopFault>
     ensures same { F.holds files.new ≡ F.holds files.old }
     ensures counted { F.faults files.old ≤ F.faults files.new }
-    ensures read { IfOk result (λ catalog. AreRead (F.holds files.old) (bundles_order platform.now names.now) (map BundleRead catalog.items)) }
+    ensures read { IfOk result (λ catalog. AreRead (F.holds files.old) (bundles_order platform.now names.now)
+        (map BundleRead catalog.items)) }
     ensures sound { IfOk result (λ catalog. AreWellFormed platform.now catalog.items) }
-    ensures stopped { IfErr result (Cause (F.holds files.old) (F.faults files.old) (F.faults files.new) (bundles_order platform.now names.now)) }
+    ensures stopped { IfErr result (Cause (F.holds files.old) (F.faults files.old) (F.faults files.new)
+        (bundles_order platform.now names.now)) }
 {
     let mut catalog = Vec::new(alloc);
     for name in names {

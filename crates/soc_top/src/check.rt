@@ -49,7 +49,8 @@ fn checked_catalog<F: Files>(
 ) -> Result<Vec<Named>, TopFault>
     ensures counted { F.faults files.old ≤ F.faults files.new }
     ensures read { IfOk result (HasChecked (F.holds files.old) platform.now request.now) }
-    ensures stopped { IfErr result (StopsChecking (F.holds files.old) (F.faults files.old) (F.faults files.new) platform.now request.now) }
+    ensures stopped { IfErr result (StopsChecking (F.holds files.old) (F.faults files.old) (F.faults files.new)
+        platform.now request.now) }
 {
     let names = distinct_names(alloc, request.bundles.as_slice())?;
     read_catalog(alloc, platform, names.as_slice(), files)
@@ -63,8 +64,10 @@ fn read_checked<F: Files>(
     files: &mut F,
 ) -> Result<Vec<Named>, TopFault>
     ensures counted { F.faults files.old ≤ F.faults files.new }
-    ensures read { IfOk result (λ catalog. (platform : Platform) × AreRead (F.holds files.old) (check_order request.now) (check_inputs platform catalog.items)) }
-    ensures stopped { IfErr result (Cause (F.holds files.old) (F.faults files.old) (F.faults files.new) (check_order request.now)) }
+    ensures read { IfOk result (λ catalog. (platform : Platform)
+        × AreRead (F.holds files.old) (check_order request.now) (check_inputs platform catalog.items)) }
+    ensures stopped { IfErr result (Cause (F.holds files.old) (F.faults files.old) (F.faults files.new)
+        (check_order request.now)) }
 {
     let platform = match load_platform(alloc, &request.platform, files) {
         Ok(platform) => platform,
@@ -116,7 +119,8 @@ fn put_verdict<S: Sink>(printer: &mut Printer<'_, S>, catalog: &[Named], name: &
 
 // Prints a line for each of these names.
 fn put_verdicts<S: Sink>(printer: &mut Printer<'_, S>, catalog: &[Named], names: &[Text])
-    ensures printed { PrintsMore S.written S.faults printer.old printer.new (flat_map (verdict_line catalog.now) names.now) }
+    ensures printed { PrintsMore S.written S.faults printer.old printer.new
+        (flat_map (verdict_line catalog.now) names.now) }
     ensures same { printer.new.sink.ghost_name ≡ printer.old.sink.ghost_name }
 {
     for name in names {
@@ -127,7 +131,8 @@ fn put_verdicts<S: Sink>(printer: &mut Printer<'_, S>, catalog: &[Named], names:
 // Writes the verdicts.
 fn write_verdicts<S: Sink>(catalog: &[Named], request: &CheckWords, sink: &mut S) -> Ending
     ensures counted { S.faults sink.old ≤ S.faults sink.new }
-    ensures concludes { Concludes (λ text. text ≡ verdicts_text catalog.now request.now) (S.written sink.old) (S.faults sink.old) (S.written sink.new) (S.faults sink.new) result }
+    ensures concludes { Concludes (λ text. text ≡ verdicts_text catalog.now request.now) (S.written sink.old)
+        (S.faults sink.old) (S.written sink.new) (S.faults sink.new) result }
 {
     let mut printer = Printer::new(sink);
     put_verdicts(&mut printer, catalog, request.bundles.as_slice());
@@ -144,7 +149,8 @@ fn end<F: Files, S: Sink>(
     files: &mut F,
     sink: &mut S,
 ) -> Ending
-    ensures { Ends (exchanged F.holds F.faults S.written S.faults files.old files.new sink.old sink.new) (check_order request.now) (CheckTexts request.now) result }
+    ensures { Ends (exchanged F.holds F.faults S.written S.faults files.old files.new sink.old sink.new)
+        (check_order request.now) (CheckTexts request.now) result }
 {
     match read_checked(alloc, request, files) {
         Ok(catalog) => write_verdicts(catalog.as_slice(), request, sink),
@@ -165,7 +171,8 @@ pub fn check_call<F: Files, S: Sink>(
     sink: &mut S,
 ) -> u8
     requires { IsCheckInForm request.now }
-    ensures { CheckAnswers (exchanged F.holds F.faults S.written S.faults files.old files.new sink.old sink.new) request.now result }
+    ensures { CheckAnswers (exchanged F.holds F.faults S.written S.faults files.old files.new sink.old sink.new)
+        request.now result }
 {
     code(&end(alloc, request, files, sink))
 }

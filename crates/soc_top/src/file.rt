@@ -58,8 +58,10 @@ pub fn load_platform<F: Files>(
 ) -> Result<Platform, TopFault>
     ensures same { F.holds files.new ≡ F.holds files.old }
     ensures counted { F.faults files.old ≤ F.faults files.new }
-    ensures gives { IfOk result (λ platform. Gives (F.holds files.old) (PlatformWant name.now) (PlatformRead platform)) }
-    ensures refused { IfErr result (Refuses (F.holds files.old) (F.faults files.old) (F.faults files.new) (PlatformWant name.now)) }
+    ensures gives { IfOk result (λ platform. Gives (F.holds files.old) (PlatformWant name.now)
+        (PlatformRead platform)) }
+    ensures refused { IfErr result (Refuses (F.holds files.old) (F.faults files.old) (F.faults files.new)
+        (PlatformWant name.now)) }
 {
     match read_file(alloc, name, files)? {
         Content::Whole(bytes) => match read_platform(alloc, bytes.as_slice()) {
@@ -81,9 +83,11 @@ pub fn load_bundle<F: Files>(
 ) -> Result<Named, TopFault>
     ensures same { F.holds files.new ≡ F.holds files.old }
     ensures counted { F.faults files.old ≤ F.faults files.new }
-    ensures gives { IfOk result (λ named. Gives (F.holds files.old) (JudgedWant platform.now name.now) (BundleRead named)) }
+    ensures gives { IfOk result (λ named. Gives (F.holds files.old) (JudgedWant platform.now name.now)
+        (BundleRead named)) }
     ensures well_formed { IfOk result (λ named. IfOk named.judged (IsWellFormed platform.now)) }
-    ensures refused { IfErr result (Refuses (F.holds files.old) (F.faults files.old) (F.faults files.new) (JudgedWant platform.now name.now)) }
+    ensures refused { IfErr result (Refuses (F.holds files.old) (F.faults files.old) (F.faults files.new)
+        (JudgedWant platform.now name.now)) }
 {
     let content = read_file(alloc, name, files)?;
     let name = copied(alloc, name)?;
@@ -116,9 +120,11 @@ pub fn load_kept<F: Files>(
 ) -> Result<Bundle, TopFault>
     ensures same { F.holds files.new ≡ F.holds files.old }
     ensures counted { F.faults files.old ≤ F.faults files.new }
-    ensures gives { IfOk result (λ bundle. Gives (F.holds files.old) (BundleWant platform.now name.now) (BundleRead (record { name = name.now; judged = Ok bundle }))) }
+    ensures gives { IfOk result (λ bundle. Gives (F.holds files.old) (BundleWant platform.now name.now)
+        (BundleRead (record { name = name.now; judged = Ok bundle }))) }
     ensures well_formed { IfOk result (IsWellFormed platform.now) }
-    ensures refused { IfErr result (Refuses (F.holds files.old) (F.faults files.old) (F.faults files.new) (BundleWant platform.now name.now)) }
+    ensures refused { IfErr result (Refuses (F.holds files.old) (F.faults files.old) (F.faults files.new)
+        (BundleWant platform.now name.now)) }
 {
     let Named { name, judged } = match load_bundle(alloc, platform, name, files) {
         Ok(named) => named,

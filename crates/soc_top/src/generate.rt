@@ -92,7 +92,8 @@ fn workload(alloc: Global, number: u32) -> Result<Setup, NoMemory>
 // Runs the workload of a number, and writes the summary, or the line of a fault at want of memory.
 fn end<S: Sink>(alloc: Global, number: u32, sink: &mut S) -> Ending
     ensures counted { S.faults sink.old ≤ S.faults sink.new }
-    ensures concludes { Concludes (IsSummaryOf number) (S.written sink.old) (S.faults sink.old) (S.written sink.new) (S.faults sink.new) result }
+    ensures concludes { Concludes (IsSummaryOf number) (S.written sink.old) (S.faults sink.old) (S.written sink.new)
+        (S.faults sink.new) result }
 {
     let Ok(setup) = workload(alloc, number) else {
         return refuse(TopFault::NoMemory, sink);
@@ -110,7 +111,8 @@ fn end<S: Sink>(alloc: Global, number: u32, sink: &mut S) -> Ending
 /// commands got which reply, how many rows were kept and cut, how the parts ended. Answers the status: 0 where
 /// the summary was written, 6 where a write of it failed, 7 at want of memory, with the line of that fault.
 pub fn generate_call<S: Sink>(alloc: Global, number: u32, sink: &mut S) -> u8
-    ensures { GenerateAnswers (S.written sink.old) (S.faults sink.old) (S.written sink.new) (S.faults sink.new) number result }
+    ensures { GenerateAnswers (S.written sink.old) (S.faults sink.old) (S.written sink.new)
+        (S.faults sink.new) number result }
 {
     code(&end(alloc, number, sink))
 }

@@ -30,8 +30,10 @@ pub fn load<F: Files>(
     files: &mut F,
 ) -> Result<Inputs, TopFault>
     ensures counted { F.faults files.old ≤ F.faults files.new }
-    ensures read { IfOk result (λ inputs. AreRead (F.holds files.old) (alone_order request.now) (alone_inputs request.now inputs.platform inputs.bundle)) }
-    ensures stopped { IfErr result (Cause (F.holds files.old) (F.faults files.old) (F.faults files.new) (alone_order request.now)) }
+    ensures read { IfOk result (λ inputs. AreRead (F.holds files.old) (alone_order request.now)
+        (alone_inputs request.now inputs.platform inputs.bundle)) }
+    ensures stopped { IfErr result (Cause (F.holds files.old) (F.faults files.old) (F.faults files.new)
+        (alone_order request.now)) }
     ensures well_formed { IfOk result (λ inputs. IsWellFormed inputs.platform inputs.bundle) }
 {
     let platform = match load_platform(alloc, &request.platform, files) {

@@ -39,7 +39,6 @@ pub use command_words::{AloneWords, CheckWords, Request, RunWords, WordsFault, r
 pub use ending::Ending;
 pub use fault::TopFault;
 pub use generate::generate_call;
-pub use inputs::Inputs;
 pub use run::{live_call, serial_call};
 pub use setup::read_setup;
 pub use top::compsoc;

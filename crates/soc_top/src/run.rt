@@ -38,7 +38,8 @@ fn write<S: Sink>(
     requires legal { IsLegal setup.now end.now.history }
     requires in_step { EndsInStep setup.now end.now }
     ensures counted { S.faults sink.old ≤ S.faults sink.new }
-    ensures concludes { Concludes (IsReport setup.now end.now.history state) (S.written sink.old) (S.faults sink.old) (S.written sink.new) (S.faults sink.new) result }
+    ensures concludes { Concludes (IsReport setup.now end.now.history state) (S.written sink.old) (S.faults sink.old)
+        (S.written sink.new) (S.faults sink.new) result }
 {
     match reporter.write(setup, end, state, sink) {
         Ok(()) => Ending::Done,
@@ -51,7 +52,8 @@ fn write<S: Sink>(
 fn serial_report<S: Sink>(alloc: Global, setup: &Setup, state: bool, sink: &mut S) -> Ending
     requires sound { IsSound setup.now }
     ensures counted { S.faults sink.old ≤ S.faults sink.new }
-    ensures concludes { Concludes (IsReportOf IsRoundRobin setup.now state) (S.written sink.old) (S.faults sink.old) (S.written sink.new) (S.faults sink.new) result }
+    ensures concludes { Concludes (IsReportOf IsRoundRobin setup.now state) (S.written sink.old) (S.faults sink.old)
+        (S.written sink.new) (S.faults sink.new) result }
 {
     let Ok(reporter) = Reporter::new(alloc, setup) else {
         return refuse(TopFault::NoMemory, sink);
@@ -76,7 +78,8 @@ fn live_report<R: Threads + Wait + Sync, S: Sink, G: Gate + Sync>(
     requires sound { IsSound setup.now }
     requires threads { 0 < request.now.workers }
     ensures counted { S.faults sink.old ≤ S.faults sink.new }
-    ensures concludes { Concludes (IsReportOf (IsHistoryBy request.now.workers) setup.now request.now.state) (S.written sink.old) (S.faults sink.old) (S.written sink.new) (S.faults sink.new) result }
+    ensures concludes { Concludes (IsReportOf (IsHistoryBy request.now.workers) setup.now request.now.state)
+        (S.written sink.old) (S.faults sink.old) (S.written sink.new) (S.faults sink.new) result }
 {
     let Ok(reporter) = Reporter::new(alloc, setup) else {
         return refuse(TopFault::NoMemory, sink);
@@ -95,7 +98,8 @@ fn serial_end<F: Files, S: Sink>(
     sink: &mut S,
 ) -> Ending
     requires { IsRunInForm request.now }
-    ensures { Ends (exchanged F.holds F.faults S.written S.faults files.old files.new sink.old sink.new) (run_order request.now) (RunTexts IsRoundRobin request.now) result }
+    ensures { Ends (exchanged F.holds F.faults S.written S.faults files.old files.new sink.old sink.new)
+        (run_order request.now) (RunTexts IsRoundRobin request.now) result }
 {
     match read_setup(alloc, request, files) {
         Ok(setup) => serial_report(alloc, &setup, request.state, sink),
@@ -114,7 +118,8 @@ fn live_end<R: Threads + Wait + Sync, F: Files, S: Sink, G: Gate + Sync>(
 ) -> Ending
     requires form { IsRunInForm request.now }
     requires threads { 0 < request.now.workers }
-    ensures { Ends (exchanged F.holds F.faults S.written S.faults files.old files.new sink.old sink.new) (run_order request.now) (RunTexts (IsHistoryBy request.now.workers) request.now) result }
+    ensures { Ends (exchanged F.holds F.faults S.written S.faults files.old files.new sink.old sink.new)
+        (run_order request.now) (RunTexts (IsHistoryBy request.now.workers) request.now) result }
 {
     match read_setup(alloc, request, files) {
         Ok(setup) => live_report(rt, alloc, &setup, request, sink, gate),
@@ -135,7 +140,8 @@ pub fn serial_call<F: Files, S: Sink>(
     sink: &mut S,
 ) -> u8
     requires { IsRunInForm request.now }
-    ensures { RunAnswersBy (IsHistoryBy 0) (exchanged F.holds F.faults S.written S.faults files.old files.new sink.old sink.new) request.now result }
+    ensures { RunAnswersBy (IsHistoryBy 0)
+        (exchanged F.holds F.faults S.written S.faults files.old files.new sink.old sink.new) request.now result }
 {
     code(&serial_end(alloc, request, files, sink))
 }
@@ -154,7 +160,8 @@ pub fn live_call<R: Threads + Wait + Sync, F: Files, S: Sink, G: Gate + Sync>(
 ) -> u8
     requires form { IsRunInForm request.now }
     requires threads { 0 < request.now.workers }
-    ensures { RunAnswers (exchanged F.holds F.faults S.written S.faults files.old files.new sink.old sink.new) request.now result }
+    ensures { RunAnswers (exchanged F.holds F.faults S.written S.faults files.old files.new sink.old sink.new)
+        request.now result }
 {
     code(&live_end(rt, alloc, request, files, sink, gate))
 }

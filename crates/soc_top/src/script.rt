@@ -84,7 +84,8 @@ fn first_script<F: Files>(
     ensures gives { IfOk result (λ script. Gives (F.holds files.old) (ScriptWant name.now room) (ScriptRead script)) }
     ensures few { IfOk result (λ script. length script.commands ≤ room) }
     ensures in_time { IfOk result InTime }
-    ensures refused { IfErr result (Refuses (F.holds files.old) (F.faults files.old) (F.faults files.new) (ScriptWant name.now room)) }
+    ensures refused { IfErr result (Refuses (F.holds files.old) (F.faults files.old) (F.faults files.new)
+        (ScriptWant name.now room)) }
 {
     let bytes = match read_file(alloc, name, files) {
         Ok(Content::Whole(bytes)) => bytes,
@@ -115,7 +116,8 @@ fn next_script<F: Files>(
     ensures gives { IfOk result (λ script. Gives (F.holds files.old) (ScriptWant name.now room) (ScriptRead script)) }
     ensures few { IfOk result (λ script. length script.commands ≤ room) }
     ensures in_time { IfOk result InTime }
-    ensures refused { IfErr result (Refuses (F.holds files.old) (F.faults files.old) (F.faults files.new) (ScriptWant name.now room)) }
+    ensures refused { IfErr result (Refuses (F.holds files.old) (F.faults files.old) (F.faults files.new)
+        (ScriptWant name.now room)) }
 {
     match kept(sources.as_slice(), name) {
         Some(source) => judge_script(alloc, name, source.bytes.as_slice(), room),
@@ -137,7 +139,8 @@ fn add_script<F: Files>(
     ensures counted { F.faults files.old ≤ F.faults files.new }
     ensures kept { OnOk result (AreKept (F.holds files.old) sources.new.items) }
     ensures added { IfOk result (IsAdded (F.holds files.old) name.now room scripts.old.items scripts.new.items) }
-    ensures refused { IfErr result (Refuses (F.holds files.old) (F.faults files.old) (F.faults files.new) (ScriptWant name.now room)) }
+    ensures refused { IfErr result (Refuses (F.holds files.old) (F.faults files.old) (F.faults files.new)
+        (ScriptWant name.now room)) }
 {
     let script = match next_script(alloc, name, room, sources, files) {
         Ok(script) => script,
@@ -160,7 +163,9 @@ pub fn load_scripts<F: Files>(
     ensures same { F.holds files.new ≡ F.holds files.old }
     ensures counted { F.faults files.old ≤ F.faults files.new }
     ensures read { IfOk result (λ scripts. AreScripts (F.holds files.old) names.now scripts.items) }
-    ensures stopped { IfErr result (λ fault. (platform : Platform) → Cause (F.holds files.old) (F.faults files.old) (F.faults files.new) (scripts_order platform names.now []) fault) }
+    ensures stopped { IfErr result (λ fault. (platform : Platform)
+        → Cause (F.holds files.old) (F.faults files.old) (F.faults files.new) (scripts_order platform names.now [])
+        fault) }
 {
     let mut sources = Vec::new(alloc);
     let mut scripts = Vec::new(alloc);

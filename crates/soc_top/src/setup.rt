@@ -77,9 +77,12 @@ fn catalog_of<F: Files>(
 ) -> Result<Vec<Named>, TopFault>
     ensures same { F.holds files.new ≡ F.holds files.old }
     ensures counted { F.faults files.old ≤ F.faults files.new }
-    ensures read { IfOk result (λ catalog. AreRead (F.holds files.old) (bundles_order platform.now (bundle_names (all_commands scripts.now))) (map BundleRead catalog.items)) }
+    ensures read { IfOk result (λ catalog. AreRead (F.holds files.old)
+        (bundles_order platform.now (bundle_names (all_commands scripts.now))) (map BundleRead catalog.items)) }
     ensures sound { IfOk result (λ catalog. AreWellFormed platform.now catalog.items) }
-    ensures stopped { IfErr result (λ fault. (fault ≡ Unheld) ⊎ Cause (F.holds files.old) (F.faults files.old) (F.faults files.new) (bundles_order platform.now (bundle_names (all_commands scripts.now))) fault) }
+    ensures stopped { IfErr result (λ fault. (fault ≡ Unheld)
+        ⊎ Cause (F.holds files.old) (F.faults files.old) (F.faults files.new)
+        (bundles_order platform.now (bundle_names (all_commands scripts.now))) fault) }
 {
     let names = bundle_names(alloc, scripts)?;
     read_catalog(alloc, platform, names.as_slice(), files)
@@ -100,7 +103,8 @@ pub fn read_setup<F: Files>(
     ensures counted { F.faults files.old ≤ F.faults files.new }
     ensures read { IfOk result (GivesSetup (F.holds files.old) request.now) }
     ensures sound { IfOk result IsSound }
-    ensures stopped { IfErr result (Cause (F.holds files.old) (F.faults files.old) (F.faults files.new) (run_order request.now)) }
+    ensures stopped { IfErr result (Cause (F.holds files.old) (F.faults files.old) (F.faults files.new)
+        (run_order request.now)) }
 {
     let platform = match load_platform(alloc, &request.platform, files) {
         Ok(platform) => platform,

@@ -42,7 +42,8 @@ fn run_call<R: Threads + Wait + Sync, F: Files, S: Sink, G: Gate + Sync>(
     gate: &G,
 ) -> u8
     requires { IsRunInForm request.now }
-    ensures { RunAnswers (exchanged F.holds F.faults S.written S.faults files.old files.new sink.old sink.new) request.now result }
+    ensures { RunAnswers (exchanged F.holds F.faults S.written S.faults files.old files.new sink.old sink.new)
+        request.now result }
 {
     if request.workers == 0 {
         serial_call(alloc, request, files, sink)
@@ -52,9 +53,9 @@ fn run_call<R: Threads + Wait + Sync, F: Files, S: Sink, G: Gate + Sync>(
 }
 
 /// Does what the words of a command line ask for, over files and a sink, and answers the status that
-/// the program ends with, if it returns: 0 where it is done, 1 where the words aren't those of a command, 7 at want of memory,
-/// and else as the command's own call says (`serial_call`, `live_call`, `alone_call`, `check_call`,
-/// `generate_call`). At 1 the line `compsoc: usage` was written, at 7 the line `compsoc: memory`. `rt` is what
+/// the program ends with, if it returns: 0 where it is done, 1 where the words aren't those of a command,
+/// 7 at want of memory, and else as the command's own call says (`serial_call`, `live_call`, `alone_call`,
+/// `check_call`, `generate_call`). At 1 the line `compsoc: usage` was written, at 7 the line `compsoc: memory`. `rt` is what
 /// threads are started with, and `gate` is what they come to between their steps.
 pub fn compsoc<R: Threads + Wait + Sync, F: Files, S: Sink, G: Gate + Sync>(
     rt: &R,
@@ -66,12 +67,19 @@ pub fn compsoc<R: Threads + Wait + Sync, F: Files, S: Sink, G: Gate + Sync>(
 ) -> u8
     ensures usage { result ≡ 1 → asked_of words.now ≡ None }
     ensures nothing { asked_of words.now ≡ None → (result ≡ 1) ⊎ (result ≡ 7) }
-    ensures usage_line { result ≡ 1 → Says (exchanged F.holds F.faults S.written S.faults files.old files.new sink.old sink.new) usage_line }
-    ensures memory_line { result ≡ 7 → Says (exchanged F.holds F.faults S.written S.faults files.old files.new sink.old sink.new) (fault_line Unheld) }
-    ensures run { AnswersRun (exchanged F.holds F.faults S.written S.faults files.old files.new sink.old sink.new) words.now result }
-    ensures alone { AnswersAlone (exchanged F.holds F.faults S.written S.faults files.old files.new sink.old sink.new) words.now result }
-    ensures check { AnswersCheck (exchanged F.holds F.faults S.written S.faults files.old files.new sink.old sink.new) words.now result }
-    ensures generate { AnswersGenerate (exchanged F.holds F.faults S.written S.faults files.old files.new sink.old sink.new) words.now result }
+    ensures usage_line { result ≡ 1
+        → Says (exchanged F.holds F.faults S.written S.faults files.old files.new sink.old sink.new) usage_line }
+    ensures memory_line { result ≡ 7
+        → Says (exchanged F.holds F.faults S.written S.faults files.old files.new sink.old sink.new)
+        (fault_line Unheld) }
+    ensures run { AnswersRun (exchanged F.holds F.faults S.written S.faults files.old files.new sink.old sink.new)
+        words.now result }
+    ensures alone { AnswersAlone (exchanged F.holds F.faults S.written S.faults files.old files.new sink.old sink.new)
+        words.now result }
+    ensures check { AnswersCheck (exchanged F.holds F.faults S.written S.faults files.old files.new sink.old sink.new)
+        words.now result }
+    ensures generate { AnswersGenerate
+        (exchanged F.holds F.faults S.written S.faults files.old files.new sink.old sink.new) words.now result }
 {
     match read_words(alloc, words) {
         Ok(Request::Run(request)) => run_call(rt, alloc, &request, files, sink, gate),

@@ -18,10 +18,10 @@ use Rattle.tile_core.specs.inner.Ready.{CanCome, CanEnd, CanBegin, HasEnded, Has
 use Rattle.tile_core.proofs.Installed.{read_inside, number_inside}
 use Rattle.tile_core.proofs.Standing.{AreLabelled, untouched}
 use Rattle.tile_core.proofs.Sites.{site_granted, loads_keyed}
-use Rattle.tile_core.proofs.Folding.{parts_are, touches, AreThere, at_place_of, fold_out}
+use Rattle.tile_core.proofs.Folding.{parts_are, touches, AreThere, have_parts, at_place_of, fold_out}
 use Rattle.tile_core.proofs.Rooms.{room_is}
 use Rattle.tile_core.proofs.Starting.{AreStarts, fold_in}
-use Rattle.tile_core.proofs.Settling.{goes_installed, have_parts, ends_there, granted_mid, mid_stands, mid_starts, ended}
+use Rattle.tile_core.proofs.Settling.{goes_installed, ends_there, granted_mid, mid_stands, mid_starts, ended}
 use Rattle.tile_core.proofs.Slots.{site_of, tile_of}
 use Rattle.tile_core.proofs.Made.{alike_more, made_alike, load_part_inside, load_part_own, ends_alike, ended_alike, starts_alike}
 
@@ -69,7 +69,7 @@ end_ready world schedule t i grant u inside is ends place part at_place part_is 
     let there : slice_get grants i ≡ Some grant = slice_get-get_or grants i grant inside ∙ ap (λ (g : Grant). Some g) (sym is) in
     let R : (ℕ → Option ℕ) → (ℕ → PartState) → TileState → Type 0 = λ granted view s. AreInstalled slots (load_part world t) granted s in
     let so_far : AreThere (ends_in t.at) front t.loads (site_granted world grants t.at t.loads) = λ k g place load at_k. ends_there world u.loads t.loads grants t.number t.at site k g place load (taken i grants k g at_k).0 in
-    let done = fold_out world t.number t.at t.loads slots 0 R (goes_installed world slots (load_part world t) 0) keyed (have_parts world u.loads t.loads grants t.number site) (ends_in t.at) front (site_granted world grants t.at t.loads) nothing t (front_labelled grants i u.apart.labelled) (tile_of world u.loads t u.made) so_far u.fits.parts in
+    let done = fold_out world t.number t.at t.loads 0 R (goes_installed world slots (load_part world t) 0) keyed (have_parts world u.loads t.loads grants t.number site) (ends_in t.at) front (site_granted world grants t.at t.loads) nothing t (front_labelled grants i u.apart.labelled) (tile_of world u.loads t u.made) so_far u.fits.parts in
     let s = fold (after_end world) t (filter (ends_in t.at) front) in
     let its_part : load_part world t place ≡ Some part = sym (parts_are world t.number t.at t.loads slots s place done.1) ∙ part_is in
     let found : position (λ (load : LoadName). same_label load.label grant.label) t.loads ≡ Some place = ap (position (λ (load : LoadName). same_label load.label grant.label)) (sym done.1.loads_are) ∙ at_place in
@@ -104,17 +104,17 @@ begin_ready world schedule t i grant h inside is begins =
         let mid = granted_mid world grants b.at b.loads in
         let all_starts = mid_starts world u.loads b.loads grants b.number b.at site in
         let starts : AreStarts (begins_in b.at) front grants b.at b.loads mid = λ k g at_k. all_starts k g (taken i grants k g at_k).0 in
-        let done = fold_in world u.loads b.loads grants b.number b.at b.at R site goes (have_parts world u.loads b.loads grants b.number site) (begins_in b.at) front mid nothing t (front_labelled grants i u.apart.labelled) left.1 starts (mid_stands world u.loads b.loads grants b.number b.at site) left.0 in
+        let done = fold_in world b.number b.at b.loads u.loads grants b.at R site goes (begins_in b.at) front mid nothing t (front_labelled grants i u.apart.labelled) starts (record { holds = left.0; tile = left.1; standing = mid_stands world u.loads b.loads grants b.number b.at site }) in
         let s = fold (after_start world) t (filter (begins_in b.at) front) in
         let S : ℕ → Type 0 = λ n. (let s = fold (after_start world) t (filter (begins_in n) front) in load_place s grant.label ≡ Some place → load_part world s place ≡ Some part → CanCome world s part) in
         let come : S b.at = λ at_place part_is.
-        let its_part : parts place ≡ Some part = sym (parts_are world b.number b.at b.loads slots s place done.1) ∙ part_is in
-        let found : position (λ (load : LoadName). same_label load.label grant.label) b.loads ≡ Some place = ap (position (λ (load : LoadName). same_label load.label grant.label)) (sym done.1.loads_are) ∙ at_place in
+        let its_part : parts place ≡ Some part = sym (parts_are world b.number b.at b.loads slots s place done.tile) ∙ part_is in
+        let found : position (λ (load : LoadName). same_label load.label grant.label) b.loads ≡ Some place = ap (position (λ (load : LoadName). same_label load.label grant.label)) (sym done.tile.loads_are) ∙ at_place in
         let at = at_place_of parts b.loads grant place (have_parts world u.loads b.loads grants b.number site) found in
         let start = all_starts i grant there begins_b in
         let first : touches (begins_in b.at) front (slice_get b.loads place) ≡ false = ap (touches (begins_in b.at) front) at.there ∙ front_untouched (begins_in b.at) grants i grant at.load u.apart.labelled there at.label in
         let absent = ap (λ c. cond c (Some (b.at * len)) (mid place)) first ∙ start.absent place at.load at.there at.label in
-        let room = room_is world u.loads b.loads grants b.number b.at (b.at + 1) _ s grant i place site done.1 done.0 done.2 there start.stands at absent in
+        let room = room_is world u.loads b.loads grants b.number b.at (b.at + 1) _ s grant place site (record { tile = done.tile; installed = done.holds; standing = done.standing }) (record { index = i; there = there; stands = start.stands; at = at; absent = absent }) in
         let made = made_alike world u.loads b s (alike_more b t s alike (starts_alike world u.loads (filter (begins_in b.at) front) t u.sound.catalog (made_alike world u.loads b t alike u.made))) u.made in
         let same : at.part ≡ part = same_Some at.part part (sym at.part_is ∙ its_part) in
         let C : Part → Type 0 = λ part. CanCome world s part in

@@ -10,7 +10,7 @@ use Rattle.bundle_model.specs.declared.bundle.Part.{Part}
 use Rattle.bundle_model.specs.declared.world.World.{World}
 use Rattle.bundle_model.specs.declared.world.LoadName.{LoadName}
 use Rattle.bundle_model.specs.declared.world.Grant.{Grant}
-use Rattle.bundle_model.specs.World.{same_label}
+use Rattle.bundle_model.specs.World.{same_label, part_on}
 use Rattle.bundle_model.proofs.Laws.{AreKeyed, keyed_pairs, same_so}
 use Rattle.part_model.specs.Part.{PartState}
 use Rattle.comik.specs.Kernel.{without}
@@ -18,11 +18,11 @@ use Rattle.comik.proofs.Laws.{length_claimed}
 use Rattle.tile_core.specs.Tile.{TileState, number_of, load_part}
 use Rattle.tile_core.specs.Slot.{removed, removed_if, after_end, installed}
 use Rattle.tile_core.specs.Fit.{AreInstalled}
-use Rattle.tile_core.specs.Views.{opening_view}
-use Rattle.tile_core.proofs.Coming.{IsRoom}
+use Rattle.tile_core.proofs.Installed.{IsChangedAt, IsGrantedPart}
+use Rattle.tile_core.proofs.Coming.{IsRoom, IsOpenedAt}
 use Rattle.bundle_model.proofs.Laws.{passing_place, no_place}
 use Rattle.tile_core.proofs.Standing.{AreLabelled, rest_apart, touched}
-use Rattle.tile_core.proofs.Sites.{site_part}
+use Rattle.tile_core.proofs.Sites.{IsSite, site_part, load_has}
 
 -- a tile of a number, before a slot, with these loads, and with an owner and a place for each slot
 pub record IsTile (number at : ℕ) (loads : List LoadName) (slots : ℕ) (t : TileState) : Type 0 where
@@ -100,8 +100,8 @@ filter_out p grant grants fails = ap (λ b. cond b (grant ∷ filter p grants) (
 pub record GoesAlong (world : World) (slots : ℕ) (parts : ℕ → Option Part) (cycle : ℕ) (R : (ℕ → Option ℕ) → (ℕ → PartState) → TileState → Type 0) : Type 0 where
   pub by : (granted later : ℕ → Option ℕ) (view other : ℕ → PartState) (t : TileState) → ((place : ℕ) → later place ≡ granted place) → ((place : ℕ) (part : Part) → parts place ≡ Some part → other place ≡ view place) → R granted view t → R later other t
   pub holds : (granted : ℕ → Option ℕ) (view : ℕ → PartState) (t : TileState) → R granted view t → AreInstalled slots parts granted t
-  pub leaves : (granted later : ℕ → Option ℕ) (view : ℕ → PartState) (t : TileState) (i : ℕ) (part : Part) (start : ℕ) → R granted view t → parts i ≡ Some part → granted i ≡ Some start → later i ≡ None → ((place : ℕ) → place ≢ i → later place ≡ granted place) → R later view (removed world t part)
-  pub comes : (granted later : ℕ → Option ℕ) (view after : ℕ → PartState) (t : TileState) (i : ℕ) (part : Part) → R granted view t → IsRoom slots parts granted t i part → later i ≡ Some cycle → ((place : ℕ) → place ≢ i → later place ≡ granted place) → after i ≡ opening_view world part (view i).log → ((place : ℕ) → place ≢ i → after place ≡ view place) → R later after (installed world t i part)
+  pub leaves : (granted later : ℕ → Option ℕ) (view : ℕ → PartState) (t : TileState) (i : ℕ) (part : Part) (start : ℕ) → R granted view t → IsGrantedPart parts granted i part start → IsChangedAt granted later i None → R later view (removed world t part)
+  pub comes : (granted later : ℕ → Option ℕ) (view after : ℕ → PartState) (t : TileState) (i : ℕ) (part : Part) → R granted view t → IsRoom slots parts granted t i part → IsOpenedAt world granted later view after i part cycle → R later after (installed world t i part)
 
 -- what is granted once some grants have ended
 abbrev pub granted_without : (Grant → Bool) → List Grant → List LoadName → (ℕ → Option ℕ) → ℕ → Option ℕ
@@ -114,6 +114,12 @@ AreThere p grants loads granted = (k : ℕ) (grant : Grant) (place : ℕ) (load 
 -- each load has a part
 abbrev pub HaveParts : (ℕ → Option Part) → List LoadName → Type 0
 HaveParts parts loads = (place : ℕ) (load : LoadName) → slice_get loads place ≡ Some load → (part : Part) × (parts place ≡ Some part)
+
+-- each load of a tile has one
+pub have_parts : (world : World) (all loads : List LoadName) (grants : List Grant) (number : ℕ) → IsSite world all loads grants number → HaveParts (site_part world number loads) loads
+have_parts world all loads grants number site place load there =
+    let has = load_has world all loads grants number place load site there in
+    (has.0, ap (λ (o : Option LoadName). option_and_then (λ (l : LoadName). part_on world number l.bundle) o) there ∙ has.1)
 
 -- the place of a grant's load, and its part
 pub record IsAt (parts : ℕ → Option Part) (loads : List LoadName) (grant : Grant) (place : ℕ) : Type 0 where
@@ -157,52 +163,57 @@ other_load grant other grants k load labelled there same =
     let one : zero ≡ suc k = keyed zero (suc k) grant other refl there (same_so grant.label load.label is ∙ sym same) in
     omega arith)
 
-left_by : (world : World) (number at : ℕ) (loads : List LoadName) (slots : ℕ) (t : TileState) (grant : Grant) (place : Option ℕ) → IsTile number at loads slots t → position (λ (load : LoadName). same_label load.label grant.label) loads ≡ place → after_end world t grant ≡ removed_if world t (option_and_then (site_part world number loads) place)
-left_by world number at loads slots t grant place is found =
-    ap₂ (λ (n : ℕ) (xs : List LoadName). removed_if world t (option_and_then (site_part world n xs) (position (λ (load : LoadName). same_label load.label grant.label) xs))) is.number_is is.loads_are
-    ∙ ap (λ (o : Option ℕ). removed_if world t (option_and_then (site_part world number loads) o)) found
+-- At a tile of a number, before a slot, with these loads.
+module _ (world : World) (number at : ℕ) (loads : List LoadName) where
+  left_by : (t : TileState) (grant : Grant) (place : Option ℕ) → IsTile number at loads world.platform.partition_slots t → position (λ (load : LoadName). same_label load.label grant.label) loads ≡ place → after_end world t grant ≡ removed_if world t (option_and_then (site_part world number loads) place)
+  left_by t grant place is found =
+      ap₂ (λ (n : ℕ) (xs : List LoadName). removed_if world t (option_and_then (site_part world n xs) (position (λ (load : LoadName). same_label load.label grant.label) xs))) is.number_is is.loads_are
+      ∙ ap (λ (o : Option ℕ). removed_if world t (option_and_then (site_part world number loads) o)) found
 
--- the grants that end
-pub fold_out : (world : World) (number at : ℕ) (loads : List LoadName) (slots cycle : ℕ) (R : (ℕ → Option ℕ) → (ℕ → PartState) → TileState → Type 0) → GoesAlong world slots (site_part world number loads) cycle R → AreKeyed (λ (load : LoadName). load.label) loads → HaveParts (site_part world number loads) loads → (p : Grant → Bool) (grants : List Grant) (granted : ℕ → Option ℕ) (view : ℕ → PartState) (t : TileState) → AreLabelled grants → IsTile number at loads slots t → AreThere p grants loads granted → R granted view t → R (granted_without p grants loads granted) view (fold (after_end world) t (filter p grants)) × IsTile number at loads slots (fold (after_end world) t (filter p grants))
-fold_out world number at loads slots cycle R goes keyed have p [] granted view t labelled is there holds =
-    (goes.by granted (granted_without p [] loads granted) view view t (λ place. nothing (slice_get loads place) (granted place)) (λ place part is. refl) holds, is)
-  where
-    nothing : (load : Option LoadName) (old : Option ℕ) → cond (touches p [] load) None old ≡ old
-    nothing None old = refl
-    nothing (Some load) old = refl
-fold_out world number at loads slots cycle R goes keyed have p (grant ∷ grants) granted view t labelled is there holds =
-    let Goal : TileState → Type 0 = λ s. R (granted_without p (grant ∷ grants) loads granted) view s × IsTile number at loads slots s in
-    elim (cases_Bool (p grant)) [
-      | inr fails ↦
-          let rest = fold_out world number at loads slots cycle R goes keyed have p grants granted view t (rest_apart grant grants labelled) is (λ k g place load at_k passes at_place same. there (suc k) g place load at_k passes at_place same) holds in
-          let P : List Grant → Type 0 = λ gs. Goal (fold (after_end world) t gs) in
-          let now : Goal (fold (after_end world) t (filter p grants)) = (goes.by (granted_without p grants loads granted) (granted_without p (grant ∷ grants) loads granted) view view _ (λ place. sym (touches_less p grant grants (slice_get loads place) None (granted place) fails)) (λ place part is. refl) rest.0, rest.1) in
-          subst P (sym (filter_out p grant grants fails)) now
-      | inl passes ↦
-          let later : ℕ → Option ℕ = λ place. cond (is_of grant (slice_get loads place)) None (granted place) in
-          let still : AreThere p grants loads later = λ k g place load at_k passes' at_place same.
-          let old = there (suc k) g place load at_k passes' at_place same in
-          let other : is_of grant (slice_get loads place) ≡ false = ap (is_of grant) at_place ∙ other_load grant g grants k load labelled at_k same in
-          (old.0, ap (λ b. cond b None (granted place)) other ∙ old.1) in
-          let step : (s : TileState) → after_end world t grant ≡ s → R later view s → IsTile number at loads slots s → Goal (fold (after_end world) t (filter p (grant ∷ grants))) = λ s after now its.
-          let rest = fold_out world number at loads slots cycle R goes keyed have p grants later view s (rest_apart grant grants labelled) its still now in
-          let done : Goal (fold (after_end world) s (filter p grants)) = (goes.by (granted_without p grants loads later) (granted_without p (grant ∷ grants) loads granted) view view _ (λ place. sym (touches_more p grant grants (slice_get loads place) None (granted place) passes)) (λ place part is. refl) rest.0, rest.1) in
-          let P : List Grant → Type 0 = λ gs. Goal (fold (after_end world) t gs) in
-          let Q : TileState → Type 0 = λ s. Goal (fold (after_end world) s (filter p grants)) in
-          subst P (sym (filter_in p grant grants passes)) (subst Q (sym after) done) in
-          let by_place : (place : Option ℕ) → position (λ (load : LoadName). same_label load.label grant.label) loads ≡ place → Goal (fold (after_end world) t (filter p (grant ∷ grants))) = λ place. elim place as (λ place. position (λ (load : LoadName). same_label load.label grant.label) loads ≡ place → Goal (fold (after_end world) t (filter p (grant ∷ grants)))) [
-            | None ↦ λ none.
-                step t (left_by world number at loads slots t grant None is none)
-                (goes.by granted later view view t (λ place. ap (λ b. cond b None (granted place)) (none_of loads grant place none)) (λ place part is. refl) holds) is
-            | Some i ↦ λ found.
-                let one = at_place_of (site_part world number loads) loads grant i have found in
-                let start = there zero grant i one.load refl passes one.there one.label in
-                step (removed world t one.part)
-                (left_by world number at loads slots t grant (Some i) is found ∙ ap (removed_if world t) one.part_is)
-                (goes.leaves granted later view t i one.part start.0 holds one.part_is start.1
-                (ap (λ b. cond b None (granted i)) (is_of_own (site_part world number loads) loads grant i one))
-                (λ place apart. ap (λ b. cond b None (granted place)) (not_of (site_part world number loads) loads grant i place keyed one apart)))
-                (tile_removed world number at loads slots t one.part is)
-          ] in
-          by_place (position (λ (load : LoadName). same_label load.label grant.label) loads) refl
-    ]
+  -- the grants that end
+  pub fold_out : (cycle : ℕ) (R : (ℕ → Option ℕ) → (ℕ → PartState) → TileState → Type 0) → GoesAlong world world.platform.partition_slots (site_part world number loads) cycle R → AreKeyed (λ (load : LoadName). load.label) loads → HaveParts (site_part world number loads) loads → (p : Grant → Bool) (grants : List Grant) (granted : ℕ → Option ℕ) (view : ℕ → PartState) (t : TileState) → AreLabelled grants → IsTile number at loads world.platform.partition_slots t → AreThere p grants loads granted → R granted view t → R (granted_without p grants loads granted) view (fold (after_end world) t (filter p grants)) × IsTile number at loads world.platform.partition_slots (fold (after_end world) t (filter p grants))
+  fold_out cycle R goes keyed have p [] granted view t labelled is there holds =
+      (goes.by granted (granted_without p [] loads granted) view view t (λ place. nothing (slice_get loads place) (granted place)) (λ place part is. refl) holds, is)
+    where
+      nothing : (load : Option LoadName) (old : Option ℕ) → cond (touches p [] load) None old ≡ old
+      nothing None old = refl
+      nothing (Some load) old = refl
+  fold_out cycle R goes keyed have p (grant ∷ grants) granted view t labelled is there holds =
+      let Goal : TileState → Type 0 = λ s. R (granted_without p (grant ∷ grants) loads granted) view s × IsTile number at loads world.platform.partition_slots s in
+      elim (cases_Bool (p grant)) [
+        | inr fails ↦
+            let rest = fold_out cycle R goes keyed have p grants granted view t (rest_apart grant grants labelled) is (λ k g place load at_k passes at_place same. there (suc k) g place load at_k passes at_place same) holds in
+            let P : List Grant → Type 0 = λ gs. Goal (fold (after_end world) t gs) in
+            let now : Goal (fold (after_end world) t (filter p grants)) = (goes.by (granted_without p grants loads granted) (granted_without p (grant ∷ grants) loads granted) view view _ (λ place. sym (touches_less p grant grants (slice_get loads place) None (granted place) fails)) (λ place part is. refl) rest.0, rest.1) in
+            subst P (sym (filter_out p grant grants fails)) now
+        | inl passes ↦
+            let later : ℕ → Option ℕ = λ place. cond (is_of grant (slice_get loads place)) None (granted place) in
+            let still : AreThere p grants loads later = λ k g place load at_k passes' at_place same.
+            let old = there (suc k) g place load at_k passes' at_place same in
+            let other : is_of grant (slice_get loads place) ≡ false = ap (is_of grant) at_place ∙ other_load grant g grants k load labelled at_k same in
+            (old.0, ap (λ b. cond b None (granted place)) other ∙ old.1) in
+            let step : (s : TileState) → after_end world t grant ≡ s → R later view s → IsTile number at loads world.platform.partition_slots s → Goal (fold (after_end world) t (filter p (grant ∷ grants))) = λ s after now its.
+            let rest = fold_out cycle R goes keyed have p grants later view s (rest_apart grant grants labelled) its still now in
+            let done : Goal (fold (after_end world) s (filter p grants)) = (goes.by (granted_without p grants loads later) (granted_without p (grant ∷ grants) loads granted) view view _ (λ place. sym (touches_more p grant grants (slice_get loads place) None (granted place) passes)) (λ place part is. refl) rest.0, rest.1) in
+            let P : List Grant → Type 0 = λ gs. Goal (fold (after_end world) t gs) in
+            let Q : TileState → Type 0 = λ s. Goal (fold (after_end world) s (filter p grants)) in
+            subst P (sym (filter_in p grant grants passes)) (subst Q (sym after) done) in
+            let by_place : (place : Option ℕ) → position (λ (load : LoadName). same_label load.label grant.label) loads ≡ place → Goal (fold (after_end world) t (filter p (grant ∷ grants))) = λ place. elim place as (λ place. position (λ (load : LoadName). same_label load.label grant.label) loads ≡ place → Goal (fold (after_end world) t (filter p (grant ∷ grants)))) [
+              | None ↦ λ none.
+                  step t (left_by t grant None is none)
+                  (goes.by granted later view view t (λ place. ap (λ b. cond b None (granted place)) (none_of loads grant place none)) (λ place part is. refl) holds) is
+              | Some i ↦ λ found.
+                  let one = at_place_of (site_part world number loads) loads grant i have found in
+                  let start = there zero grant i one.load refl passes one.there one.label in
+                  step (removed world t one.part)
+                  (left_by t grant (Some i) is found ∙ ap (removed_if world t) one.part_is)
+                  (goes.leaves granted later view t i one.part start.0 holds
+                  (record { part_is = one.part_is; start_is = start.1 })
+                  (record {
+                    now = ap (λ b. cond b None (granted i)) (is_of_own (site_part world number loads) loads grant i one);
+                    stay = λ place apart. ap (λ b. cond b None (granted place)) (not_of (site_part world number loads) loads grant i place keyed one apart);
+                  }))
+                  (tile_removed world number at loads world.platform.partition_slots t one.part is)
+            ] in
+            by_place (position (λ (load : LoadName). same_label load.label grant.label) loads) refl
+      ]

@@ -27,7 +27,7 @@ use Rattle.tile_core.specs.Tile.{TileState, place_at, number_of}
 use Rattle.tile_core.specs.Cycle.{core_place, words_of, held_state, with_state, run_part, run_place, run_held, tile_cycle}
 use Rattle.tile_core.specs.Views.{view_step}
 use Rattle.tile_core.specs.Holds.{IsHere, IsLogged, Holds}
-use Rattle.tile_core.proofs.Installed.{IsOwner, owner_is, installed_same}
+use Rattle.tile_core.proofs.Installed.{IsGrantedPart, IsOwner, owner_is, installed_same}
 use Rattle.tile_core.proofs.Frames.{region_stays}
 use Rattle.tile_core.proofs.Ports.{ArePartedParts, own_as}
 use Rattle.part_model.proofs.Laws.{cycle_size as bytes_kept, cycle_ports}
@@ -90,12 +90,12 @@ unmoved times parts granted starts view costs c t frame h same =
     }
 
 -- past the microkernel's cycles the part that is held is the one that runs
-pub runs_is : (times : FrameTimes) (parts : ℕ → Option Part) (granted : ℕ → Option ℕ) (starts : ℕ → ℕ) (view : ℕ → PartState) (c : ℕ) (t : TileState) (place : ℕ) (part : Part) (start : ℕ) → IsFrame times → Holds times parts granted starts view c t → times.kernel ≤ offset_at times c → parts place ≡ Some part → granted place ≡ Some start → has (number_of part) t.kernel.held ≡ runs times (slots_of part.slots) start c
-runs_is times parts granted starts view c t place part start frame h late is begins =
+pub runs_is : (times : FrameTimes) (parts : ℕ → Option Part) (granted : ℕ → Option ℕ) (starts : ℕ → ℕ) (view : ℕ → PartState) (c : ℕ) (t : TileState) (place : ℕ) (part : Part) (start : ℕ) → IsFrame times → Holds times parts granted starts view c t → times.kernel ≤ offset_at times c → IsGrantedPart parts granted place part start → has (number_of part) t.kernel.held ≡ runs times (slots_of part.slots) start c
+runs_is times parts granted starts view c t place part start frame h late granted_part =
     let k = t.kernel in
     let turn = subst (λ (f : FrameTimes). InTurn f k.owners k.held k.next starts c) h.frame h.turn in
-    let one = h.here place part start is begins in
-    let placed = h.installed.each place part start is begins in
+    let one = h.here place part start granted_part.part_is granted_part.start_is in
+    let placed = h.installed.each place part start granted_part.part_is granted_part.start_is in
     let served = served_at times c in
     let least = frame.slots_least in
     let most = frame.slots_most in
@@ -122,9 +122,26 @@ same_state a b bytes bytes' ports ports' log log' p q n r = cc
 abbrev pub AreParted : (ℕ → Option Part) → (ℕ → Option ℕ) → Type 0
 AreParted parts granted = (i j : ℕ) (one other : Part) (s e : ℕ) → i ≢ j → parts i ≡ Some one → granted i ≡ Some s → parts j ≡ Some other → granted j ≡ Some e → ArePartedParts one other
 
+-- the tile holds the parts, whatever the starts by the parts' numbers, and those that are installed are
+-- parted
+pub record HoldsSome (times : FrameTimes) (parts : ℕ → Option Part) (cycle : ℕ) (granted : ℕ → Option ℕ) (view : ℕ → PartState) (t : TileState) : Type 0 where
+  pub starts : ℕ → ℕ
+  pub parted : AreParted parts granted
+  pub holds : Holds times parts granted starts view cycle t
+
+-- the part with a number has the cycle: it is held past the microkernel's cycles, and it is of a load that is
+-- granted
+record HasCycle (times : FrameTimes) (parts : ℕ → Option Part) (granted : ℕ → Option ℕ) (cycle : ℕ) (t : TileState) (number : ℕ) : Type 0 where
+  late : times.kernel ≤ offset_at times cycle
+  held : t.kernel.held ≡ Some number
+  owner : IsOwner times.slots parts granted t number
+
 -- the part that is held has its cycle
-moved : (times : FrameTimes) (parts : ℕ → Option Part) (granted : ℕ → Option ℕ) (starts : ℕ → ℕ) (view : ℕ → PartState) (costs : Costs) (c : ℕ) (t : TileState) (p : ℕ) → IsFrame times → AreParted parts granted → Holds times parts granted starts view c t → times.kernel ≤ offset_at times c → t.kernel.held ≡ Some p → (l : IsOwner times.slots parts granted t p) → Holds times parts granted starts (views_after times costs c parts granted view) (c + 1) (with_state t l.place l.is.part (part_cycle costs (core_place l.is.part) c (held_state t l.place l.is.part)))
-moved times parts granted starts view costs c t p frame parted h late held l =
+moved : (times : FrameTimes) (parts : ℕ → Option Part) (granted : ℕ → Option ℕ) (starts : ℕ → ℕ) (view : ℕ → PartState) (costs : Costs) (c : ℕ) (t : TileState) (p : ℕ) → IsFrame times → AreParted parts granted → Holds times parts granted starts view c t → (has_cycle : HasCycle times parts granted c t p) → (let l = has_cycle.owner in Holds times parts granted starts (views_after times costs c parts granted view) (c + 1) (with_state t l.place l.is.part (part_cycle costs (core_place l.is.part) c (held_state t l.place l.is.part))))
+moved times parts granted starts view costs c t p frame parted h has_cycle =
+    let late = has_cycle.late in
+    let held = has_cycle.held in
+    let l = has_cycle.owner in
     let k = t.kernel in
     let i = l.place in
     let part = l.is.part in
@@ -143,7 +160,7 @@ moved times parts granted starts view costs c t p frame parted h late held l =
     sym now ∙ ap (context_of k (offset_at times c)) (sym l.is.number_is) ∙ one.words in
     let same : state ≡ view i = same_state k.file (words_of (view i)) _ (view i).bytes _ (view i).ports _ (view i).log words one.bytes one.ports logged.is in
     let run : runs times (slots_of part.slots) start c ≡ true =
-    sym (runs_is times parts granted starts view c t i part start frame h late l.is.part_is l.is.start_is)
+    sym (runs_is times parts granted starts view c t i part start frame h late (record { part_is = l.is.part_is; start_is = l.is.start_is }))
     ∙ ap (has (number_of part)) held ∙ eq-eqb p (number_of part) (sym l.is.number_is) in
     let goes : next ≡ views i = ap (part_cycle costs (core_place part) c) same ∙ sym (view_goes times costs c (granted i) (parts i) (view i) start part l.is.start_is l.is.part_is run) in
     let fits : length next.bytes ≡ part.region.len = bytes_kept costs (core_place part) c state ∙ length-region_bytes t.memory part.region inside in
@@ -154,7 +171,7 @@ moved times parts granted starts view costs c t p frame parted h late held l =
     apart (same_Some place i (sym there.known ∙ ap (place_at t) e ∙ l.at_place)) in
     let other_view : (place : ℕ) → place ≢ i → views place ≡ view place = λ place apart.
     view_same times costs c (granted place) (parts place) (view place) (λ s q begins is.
-    sym (runs_is times parts granted starts view c t place q s frame h late is begins)
+    sym (runs_is times parts granted starts view c t place q s frame h late (record { part_is = is; start_is = begins }))
     ∙ ap (has (number_of q)) held ∙ ne_eqb p (number_of q) (λ e. other_number place q s apart is begins (sym e))) in
     let after = with_state t i part next in
     let own : IsHere times starts (c + 1) after part start (views i) = record {
@@ -210,7 +227,7 @@ late_cycle : (times : FrameTimes) (parts : ℕ → Option Part) (granted : ℕ �
 late_cycle times parts granted starts view costs c t None frame parted h late held =
     let same : (place : ℕ) → views_after times costs c parts granted view place ≡ view place = λ place.
     view_same times costs c (granted place) (parts place) (view place) (λ s q begins is.
-    sym (runs_is times parts granted starts view c t place q s frame h late is begins) ∙ ap (has (number_of q)) held) in
+    sym (runs_is times parts granted starts view c t place q s frame h late (record { part_is = is; start_is = begins })) ∙ ap (has (number_of q)) held) in
     let still : kernel_cycle t.kernel c ≡ t.kernel = still_kernel times t.kernel c frame h.frame late in
     subst (λ (k : KernelState). Holds times parts granted starts (views_after times costs c parts granted view) (c + 1) (record t { kernel = k })) still (unmoved times parts granted starts view costs c t frame h same)
 late_cycle times parts granted starts view costs c t (Some p) frame parted h late held =
@@ -218,7 +235,7 @@ late_cycle times parts granted starts view costs c t (Some p) frame parted h lat
     let l = owner_is times.slots parts granted t p p h.installed installed in
     let goal : Option ℕ → Type 0 = λ o. Holds times parts granted starts (views_after times costs c parts granted view) (c + 1) (run_place parts costs c t o) in
     let goal' : Option Part → Type 0 = λ o. Holds times parts granted starts (views_after times costs c parts granted view) (c + 1) (run_part costs c t l.place o) in
-    subst goal (sym l.at_place) (subst goal' (sym l.is.part_is) (moved times parts granted starts view costs c t p frame parted h late held l))
+    subst goal (sym l.at_place) (subst goal' (sym l.is.part_is) (moved times parts granted starts view costs c t p frame parted h (record { late = late; held = held; owner = l })))
 
 -- one cycle of the tile
 pub holds_cycle : (times : FrameTimes) (parts : ℕ → Option Part) (granted : ℕ → Option ℕ) (starts : ℕ → ℕ) (view : ℕ → PartState) (costs : Costs) (c : ℕ) (t : TileState) → IsFrame times → AreParted parts granted → Holds times parts granted starts view c t → Holds times parts granted starts (views_after times costs c parts granted view) (c + 1) (tile_cycle parts costs c t)

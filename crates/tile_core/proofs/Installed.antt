@@ -14,6 +14,16 @@ use Rattle.tile_core.specs.Tile.{TileState, number_of, place_at}
 use Rattle.tile_core.specs.Slot.{removed, installed}
 use Rattle.tile_core.specs.Fit.{IsPlaced, IsNumberOf, AreInstalled}
 
+-- what is told of the places has a new value at one of them, and stays at all others
+pub record IsChangedAt {X : Type 0} (old new : ℕ → X) (place : ℕ) (value : X) : Type 0 where
+  pub now : new place ≡ value
+  pub stay : (other : ℕ) → other ≢ place → new other ≡ old other
+
+-- the load at a place has this part, and is granted from a cycle on
+pub record IsGrantedPart (parts : ℕ → Option Part) (granted : ℕ → Option ℕ) (place : ℕ) (part : Part) (start : ℕ) : Type 0 where
+  pub part_is : parts place ≡ Some part
+  pub start_is : granted place ≡ Some start
+
 -- the value that is there
 pub the_value : (found : Option ℕ) → IsSome found → (value : ℕ) × (found ≡ Some value)
 the_value None some = absurd (false≢true some)
@@ -88,17 +98,17 @@ pub numbers_apart : (slots : ℕ) (t : TileState) (i j : ℕ) (one other : Part)
 numbers_apart slots t i j one other a b apart = λ same. apart (same_Some j i (sym b.known ∙ ap (place_at t) same ∙ a.known))
 
 -- a part leaves
-pub installed_removed : (world : World) (slots : ℕ) (parts : ℕ → Option Part) (granted later : ℕ → Option ℕ) (t : TileState) (i : ℕ) (part : Part) (start : ℕ) → AreInstalled slots parts granted t → parts i ≡ Some part → granted i ≡ Some start → later i ≡ None → ((place : ℕ) → place ≢ i → later place ≡ granted place) → AreInstalled slots parts later (removed world t part)
-installed_removed world slots parts granted later t i part start h part_is start_is gone stay =
+pub installed_removed : (world : World) (slots : ℕ) (parts : ℕ → Option Part) (granted later : ℕ → Option ℕ) (t : TileState) (i : ℕ) (part : Part) (start : ℕ) → AreInstalled slots parts granted t → IsGrantedPart parts granted i part start → IsChangedAt granted later i None → AreInstalled slots parts later (removed world t part)
+installed_removed world slots parts granted later t i part start h own gone =
     let k = t.kernel in
     let p = number_of part in
-    let one = h.each i part start part_is start_is in
+    let one = h.each i part start own.part_is own.start_is in
     let inside : p < length t.places = read_inside t.places p i one.known in
-    let apart_of : (place : ℕ) (s : ℕ) → later place ≡ Some s → place ≢ i = λ place s begins e. none-some s (sym gone ∙ ap later (sym e) ∙ begins) in
+    let apart_of : (place : ℕ) (s : ℕ) → later place ≡ Some s → place ≢ i = λ place s begins e. none-some s (sym gone.now ∙ ap later (sym e) ∙ begins) in
     record {
       each = λ place q s is begins.
           let apart = apart_of place s begins in
-          let there = h.each place q s is (sym (stay place apart) ∙ begins) in
+          let there = h.each place q s is (sym (gone.stay place apart) ∙ begins) in
           let n = number_of q in
           let differs = numbers_apart slots t i place part q one there apart in
           record {
@@ -112,9 +122,9 @@ installed_removed world slots parts granted later t i part start h part_is start
             let was : place_at t number ≡ Some place = sym (get_or-set_other t.places p number None None differs) ∙ is in
             let m = h.known number place was in
             let apart : place ≢ i = λ e.
-            let same : m.part ≡ part = same_Some m.part part (sym m.part_is ∙ ap parts e ∙ part_is) in
+            let same : m.part ≡ part = same_Some m.part part (sym m.part_is ∙ ap parts e ∙ own.part_is) in
             differs (sym m.number_is ∙ ap number_of same) in
-            record { part = m.part; start = m.start; part_is = m.part_is; start_is = stay place apart ∙ m.start_is; number_is = m.number_is }
+            record { part = m.part; start = m.start; part_is = m.part_is; start_is = gone.stay place apart ∙ m.start_is; number_is = m.number_is }
       ];
       owned = λ slot number is.
           let was = without_is p (owner_at k slot) number (sym (freed_at p k.owners slot) ∙ is) in
@@ -149,8 +159,8 @@ nobody_has slots parts granted t place part slot (Some n) h room is =
     ne_eqb n (number_of part) (owner_apart slots parts granted t place part slot n h room is)
 
 -- a part comes
-pub installed_installed : (world : World) (slots : ℕ) (parts : ℕ → Option Part) (granted later : ℕ → Option ℕ) (t : TileState) (i : ℕ) (part : Part) (start : ℕ) → AreInstalled slots parts granted t → IsFree slots parts granted t i part → later i ≡ Some start → ((place : ℕ) → place ≢ i → later place ≡ granted place) → AreInstalled slots parts later (installed world t i part)
-installed_installed world slots parts granted later t i part start h room now stay =
+pub installed_installed : (world : World) (slots : ℕ) (parts : ℕ → Option Part) (granted later : ℕ → Option ℕ) (t : TileState) (i : ℕ) (part : Part) (start : ℕ) → AreInstalled slots parts granted t → IsFree slots parts granted t i part → IsChangedAt granted later i (Some start) → AreInstalled slots parts later (installed world t i part)
+installed_installed world slots parts granted later t i part start h room begun =
     let k = t.kernel in
     let p = number_of part in
     let kernel = prepared k part.slots part.entry in
@@ -184,7 +194,7 @@ installed_installed world slots parts granted later t i part start h room now st
             let q_is : part ≡ q = same_Some part q (sym room.part_is ∙ ap parts (sym same) ∙ is) in
             subst (λ (x : Part). IsPlaced slots (installed world t i part) place x) q_is (subst (λ (n : ℕ). IsPlaced slots (installed world t i part) n part) (sym same) own)
         | inr apart ↦
-            let there = h.each place q s is (sym (stay place apart) ∙ begins) in
+            let there = h.each place q s is (sym (begun.stay place apart) ∙ begins) in
             let n = number_of q in
             let differs : n ≢ p = installed_apart k part.slots n room.some room.fits room.free there.installed in
             record {
@@ -196,10 +206,10 @@ installed_installed world slots parts granted later t i part start h room now st
       known = λ number place is. elim (cases_eq number p) [
         | inl same ↦
             let here : i ≡ place = same_Some i place (sym (get_or-set_same t.places p (Some i) None in_places) ∙ ap (λ n. get_or (slice_set t.places p (Some i)) n None) (sym same) ∙ is) in
-            record { part = part; start = start; part_is = ap parts (sym here) ∙ room.part_is; start_is = ap later (sym here) ∙ now; number_is = sym same }
+            record { part = part; start = start; part_is = ap parts (sym here) ∙ room.part_is; start_is = ap later (sym here) ∙ begun.now; number_is = sym same }
         | inr differs ↦
             let m = h.known number place (sym (get_or-set_other t.places p number (Some i) None differs) ∙ is) in
-            record { part = m.part; start = m.start; part_is = m.part_is; start_is = stay place (was_absent place m.start m.start_is) ∙ m.start_is; number_is = m.number_is }
+            record { part = m.part; start = m.start; part_is = m.part_is; start_is = begun.stay place (was_absent place m.start m.start_is) ∙ m.start_is; number_is = m.number_is }
       ];
       owned = λ slot number is. elim (cases_Bool (nat_lt slot (length k.owners) && bit_at part.slots slot == 1)) [
         | inl taken ↦

@@ -11,7 +11,7 @@ pub use Rattle.tile_core.proofs.Slots.{site_of, slot_number, slot_loads, slot_ta
 -- the ports of a tile: the change of one, as the part sees it that has it
 pub use Rattle.tile_core.proofs.Ports.{ArePartedPorts, change_at, own_changed}
 -- the loads of a tile, their parts and their grants
-pub use Rattle.tile_core.proofs.Sites.{IsSite, loads_keyed, load_has, bundle_is, granted_ports}
+pub use Rattle.tile_core.proofs.Sites.{IsSite, loads_keyed, load_has, bundle_is}
 -- the grant of a load that stands at a slot
 pub use Rattle.tile_core.proofs.Standing.{AreLabelled, if_stands, standing_is, first_cycle}
 pub use Rattle.tile_core.proofs.Settling.{own_grant}

@@ -1,17 +1,11 @@
 -- What a tile's memory and its ports are after a part changed its own.
-use Rattle.std.proofs.Common.{◌≡◌, ℕ, ◌+◌, ◌*◌, ◌≤◌, List, ◌++◌, length, take, drop, sym, ap, ◌∙◌}
+use Rattle.std.proofs.Common.{◌≡◌, ℕ, ◌+◌, List, ◌++◌, take, drop, sym, ap, ◌∙◌}
 use Rattle.std.proofs.lemmas.List.{take-append-drop, drop-drop}
 use Rattle.soc_base.specs.declared.region.Region.{Region}
-use Rattle.tile_memory.specs.Bytes.{IsInside, region_bytes, with_region, filled_bytes}
-use Rattle.tile_memory.proofs.Laws.{length-with_region, length-filled_bytes}
+use Rattle.tile_memory.specs.Bytes.{region_bytes, with_region}
 use Rattle.ni_port.specs.SizedPort.{SizedPort}
 use Rattle.tile_mmio.specs.Ports.{own_ports, put_ports, other_ports}
 use Rattle.tile_mmio.proofs.Laws.{ports_after}
-
--- a memory that is filled keeps its size
-pub filled_kept : (memory new image : List ℕ) (region : Region) → IsInside memory region → 4 * length image ≤ region.len → new ≡ with_region memory region (filled_bytes region.len image) → length new ≡ length memory
-filled_kept memory new image region inside fits is =
-    rw is (length-with_region memory region (filled_bytes region.len image) inside (length-filled_bytes region.len image fits))
 
 -- a memory that is the same before and after a region differs in the region's bytes alone
 pub joined_region : (memory new bytes : List ℕ) (region : Region) → region_bytes new region ≡ bytes → take region.base new ≡ take region.base memory → drop (region.base + region.len) new ≡ drop (region.base + region.len) memory → new ≡ with_region memory region bytes

@@ -13,12 +13,12 @@ use Rattle.tdm_network.specs.Rows.{removed as left}
 use Rattle.grant_tables.specs.Entries.{grant_entries}
 use Rattle.grant_tables.specs.Tables.{with_entries, tables_after, AreTabled}
 use Rattle.tile_core.specs.Tile.{TileState, load_part}
-use Rattle.tile_core.specs.Slot.{ends_in, begins_in, after_end, with_ends, after_start, with_starts, with_tables, with_grants, with_injection}
+use Rattle.tile_core.specs.Slot.{ends_in, begins_in, after_end, with_ends, after_start, with_starts, with_tables, with_grants}
 use Rattle.tile_core.specs.Fit.{IsUnderway}
 use Rattle.tile_core.specs.inner.Ready.{IsSoundTile, HasEnded}
 use Rattle.tile_core.proofs.Stretches.{fine_parts}
 use Rattle.tile_core.proofs.Made.{made_alike, settled_alike}
-use Rattle.tile_core.proofs.SlotMade.{settled_tables, granted_alike, injected_kept}
+use Rattle.tile_core.proofs.SlotMade.{settled_tables, granted_alike}
 
 pub held_inside : (world : World) (t : TileState) (place : ℕ) (part : Part) → IsSoundTile world t → load_part world t place ≡ Some part → IsInside t.memory part.region
 held_inside world t place part tile is = (fine_parts world tile.loads t tile.sound.catalog tile.made place part is).0
@@ -73,12 +73,6 @@ settled_tile world schedule t after u is =
 
 pub settled_at : (world : World) (schedule : Schedule) (t after : TileState) → IsUnderway world schedule t → after ≡ with_grants world schedule.grants.items t → after.at ≡ t.at
 settled_at world schedule t after u is = ap (λ (s : TileState). s.at) is ∙ (granted_alike world u.loads schedule.grants.items t u.sound.catalog u.made).at
-
--- and once a port has injected
-pub injected_tile : (world : World) (t after : TileState) → IsSoundTile world t → after ≡ with_injection t → IsSoundTile world after
-injected_tile world t after tile is =
-    let P : TileState → Type 0 = λ s. IsSoundTile world s in
-    subst P (sym is) (record { loads = tile.loads; sound = tile.sound; made = made_alike world tile.loads t (with_injection t) (injected_kept t).alike tile.made })
 
 -- no count is as high as the slots of a run
 pub counts_fit : (world : World) (schedule : Schedule) (t after : TileState) → IsUnderway world schedule t → t.at + 1 < 2 ^ 64 → after ≡ with_grants world schedule.grants.items t → All (λ count. count + 1 < 2 ^ 64) after.carried

@@ -19,7 +19,7 @@ use Rattle.tile_core.specs.Tile.{TileState}
 use Rattle.tile_core.specs.Fit.{AreInstalled}
 use Rattle.tile_core.proofs.Installed.{room_free}
 use Rattle.tile_core.proofs.Coming.{IsRoom}
-use Rattle.tile_core.proofs.Sites.{IsSite, site_part, IsGranted, site_part_is, granted_disjoint, granted_ports}
+use Rattle.tile_core.proofs.Sites.{IsSite, site_part, IsGranted, IsStandingPart, site_part_is, granted_disjoint, granted_ports}
 use Rattle.tile_core.proofs.Ports.{ArePartedParts}
 use Rattle.tile_core.proofs.Folding.{IsTile, IsAt}
 
@@ -59,35 +59,50 @@ slots_fit world part sound = fits_word part.slots world.platform.partition_slots
 pub slots_some : (world : World) (part : Part) → IsWellFormedPart world.platform part → 0 < part.slots
 slots_some world part sound = some_slots part.slots sound.some_slot
 
--- installed parts share no partition slot
-pub apart_at : (world : World) (all loads : List LoadName) (grants : List Grant) (number slot : ℕ) (granted : ℕ → Option ℕ) (i j s e : ℕ) (one other : Part) → IsSite world all loads grants number → AreStanding world grants slot loads granted → i ≢ j → IsGranted world grants slot loads i s → granted j ≡ Some e → site_part world number loads i ≡ Some one → site_part world number loads j ≡ Some other → AreDisjoint one other
-apart_at world all loads grants number slot granted i j s e one other site standing differ a begins one_is other_is =
-    granted_disjoint world all loads grants number slot i j s e one other site differ a (standing j e begins) one_is other_is
-
--- installed parts share nothing
-pub parted_at : (world : World) (all loads : List LoadName) (grants : List Grant) (number slot : ℕ) (granted : ℕ → Option ℕ) (i j s e : ℕ) (one other : Part) → IsSite world all loads grants number → AreStanding world grants slot loads granted → i ≢ j → IsGranted world grants slot loads i s → granted j ≡ Some e → site_part world number loads i ≡ Some one → site_part world number loads j ≡ Some other → ArePartedParts one other
-parted_at world all loads grants number slot granted i j s e one other site standing differ a begins one_is other_is = record {
-  regions = (apart_at world all loads grants number slot granted i j s e one other site standing differ a begins one_is other_is).regions;
-  ports = granted_ports world all loads grants number slot i j s e one other site differ a (standing j e begins) one_is other_is;
+-- the parts of two loads whose grants stand in one slot share nothing
+pub parted_at : (world : World) (all loads : List LoadName) (grants : List Grant) (number slot i j : ℕ) (one other : Part) → IsSite world all loads grants number → i ≢ j → IsStandingPart world grants number slot loads i one → IsStandingPart world grants number slot loads j other → ArePartedParts one other
+parted_at world all loads grants number slot i j one other site differ one_part other_part = record {
+  regions = (granted_disjoint world all loads grants number slot i j one other site differ one_part other_part).regions;
+  ports = granted_ports world all loads grants number slot i j one other site differ one_part other_part;
 }
 
-pub room_is : (world : World) (all loads : List LoadName) (grants : List Grant) (number at slot : ℕ) (granted : ℕ → Option ℕ) (t : TileState) (grant : Grant) (k i : ℕ) → IsSite world all loads grants number → IsTile number at loads world.platform.partition_slots t → AreInstalled world.platform.partition_slots (site_part world number loads) granted t → AreStanding world grants slot loads granted → slice_get grants k ≡ Some grant → stands_at slot grant ≡ true → (one : IsAt (site_part world number loads) loads grant i) → granted i ≡ None → IsRoom world.platform.partition_slots (site_part world number loads) granted t i one.part
-room_is world all loads grants number at slot granted t grant k i site is h standing at_k stands one absent =
+-- a tile before a slot with these loads, of which those are installed whose grants stand at `slot`
+pub record IsStandingTile (world : World) (grants : List Grant) (number at slot : ℕ) (loads : List LoadName) (granted : ℕ → Option ℕ) (t : TileState) : Type 0 where
+  pub tile : IsTile number at loads world.platform.partition_slots t
+  pub installed : AreInstalled world.platform.partition_slots (site_part world number loads) granted t
+  pub standing : AreStanding world grants slot loads granted
+
+-- a grant that stands at a slot, and whose load is at a place of the tile, but not installed yet
+pub record IsComing (grants : List Grant) (slot : ℕ) (parts : ℕ → Option Part) (loads : List LoadName) (granted : ℕ → Option ℕ) (grant : Grant) (place : ℕ) : Type 0 where
+  pub index : ℕ
+  pub there : slice_get grants index ≡ Some grant
+  pub stands : stands_at slot grant ≡ true
+  pub at : IsAt parts loads grant place
+  pub absent : granted place ≡ None
+
+pub room_is : (world : World) (all loads : List LoadName) (grants : List Grant) (number at slot : ℕ) (granted : ℕ → Option ℕ) (t : TileState) (grant : Grant) (i : ℕ) → IsSite world all loads grants number → IsStandingTile world grants number at slot loads granted t → (coming : IsComing grants slot (site_part world number loads) loads granted grant i) → IsRoom world.platform.partition_slots (site_part world number loads) granted t i coming.at.part
+room_is world all loads grants number at slot granted t grant i site standing coming =
+    let one = coming.at in
+    let absent = coming.absent in
+    let is = standing.tile in
     let part = one.part in
     let sound = part_sound world all loads grants number i part site one.part_is in
     let own : IsGranted world grants slot loads i (grant.start * world.platform.slot_cycles) = record {
       load = one.load;
       there = one.there;
       grant = grant;
-      index = k;
-      granted = at_k;
+      index = coming.index;
+      granted = coming.there;
       label = one.label;
-      stands = stands;
+      stands = coming.stands;
       start_is = refl;
     } in
     let apart : (place s : ℕ) → granted place ≡ Some s → i ≢ place = λ place s begins e. none-some s (sym absent ∙ ap granted e ∙ begins) in
+    let own_part : IsStandingPart world grants number slot loads i part = record { start = grant.start * world.platform.slot_cycles; granted = own; is = one.part_is } in
+    let other_part : (place s : ℕ) (q : Part) → site_part world number loads place ≡ Some q → granted place ≡ Some s → IsStandingPart world grants number slot loads place q = λ place s q q_is begins.
+    record { start = s; granted = standing.standing place s begins; is = q_is } in
     let disjoint : (place s : ℕ) (q : Part) → site_part world number loads place ≡ Some q → granted place ≡ Some s → AreDisjoint part q = λ place s q q_is begins.
-    apart_at world all loads grants number slot granted i place (grant.start * world.platform.slot_cycles) s part q site standing (apart place s begins) own begins one.part_is q_is in
+    granted_disjoint world all loads grants number slot i place part q site (apart place s begins) own_part (other_part place s q q_is begins) in
     record {
       free = record {
         part_is = one.part_is;
@@ -95,7 +110,7 @@ room_is world all loads grants number at slot granted t grant k i site is h stan
         some = slots_some world part sound;
         fits = slots_fit world part sound;
         below = sound.slots_below;
-        free = room_free world.platform.partition_slots (site_part world number loads) granted t part.slots h sound.slots_below (λ place q s slot q_is begins bit bit_q.
+        free = room_free world.platform.partition_slots (site_part world number loads) granted t part.slots standing.installed sound.slots_below (λ place q s slot q_is begins bit bit_q.
             let q_sound = part_sound world all loads grants number place q site q_is in
             (disjoint place s q q_is begins).slots slot (among part.slots slot (slots_fit world part sound) bit) (among q.slots slot (slots_fit world q q_sound) bit_q));
         owners = is.owners;
@@ -103,5 +118,5 @@ room_is world all loads grants number at slot granted t grant k i site is h stan
       };
       image = sound.image_fits;
       parted = λ place q s q_is begins.
-          parted_at world all loads grants number slot granted i place (grant.start * world.platform.slot_cycles) s part q site standing (apart place s begins) own begins one.part_is q_is;
+          parted_at world all loads grants number slot i place part q site (apart place s begins) own_part (other_part place s q q_is begins);
     }

@@ -1,28 +1,26 @@
 -- A tile after the grants of a slot have ended and begun.
-use Rattle.std.proofs.Common.{◌≡◌, ◌≢◌, ℕ, ◌+◌, ◌*◌, ◌==◌, Bool, true, false, cond, List, fold, filter, slice_get, Option, Some, None, option_and_then, refl, sym, subst, ap, ap₂, ◌∙◌, inl, inr}
+use Rattle.std.proofs.Common.{◌≡◌, ℕ, ◌+◌, ◌*◌, ◌==◌, Bool, true, false, cond, List, fold, filter, slice_get, Option, Some, None, option_and_then, refl, sym, subst, ap, ap₂, ◌∙◌}
 use Rattle.std.specs.Option.{option_map_or}
-use Rattle.std.proofs.lemmas.Bool.{cases_eq, and_parts, eqb-true, eq-eqb, ne_eqb}
-use Rattle.std.proofs.lemmas.Option.{none-some, same_Some}
+use Rattle.std.proofs.lemmas.Bool.{and_parts, eqb-true}
+use Rattle.std.proofs.lemmas.Option.{none-some}
 use Rattle.soc_base.specs.declared.label.Label.{Label}
 use Rattle.soc_base.specs.Time.{FrameTimes}
 use Rattle.bundle_model.specs.declared.bundle.Part.{Part}
 use Rattle.bundle_model.specs.declared.world.World.{World}
 use Rattle.bundle_model.specs.declared.world.LoadName.{LoadName}
 use Rattle.bundle_model.specs.declared.world.Grant.{Grant}
-use Rattle.bundle_model.specs.World.{same_label, part_on}
+use Rattle.bundle_model.specs.World.{same_label}
 use Rattle.bundle_model.proofs.Laws.{keyed_pairs, found_at, same_so}
 use Rattle.part_model.specs.Part.{PartState}
-use Rattle.tile_core.specs.Tile.{TileState, number_of}
+use Rattle.tile_core.specs.Tile.{TileState}
 use Rattle.tile_core.specs.Slot.{grant_of, ends_in, begins_in, after_end, with_ends, after_start, with_starts}
 use Rattle.tile_core.specs.Fit.{AreInstalled, granted_cycle}
-use Rattle.tile_core.specs.Holds.{Holds}
 use Rattle.tile_core.proofs.Installed.{installed_by, installed_removed, installed_installed}
-use Rattle.tile_core.proofs.Ports.{ArePartedParts, parted_sym}
-use Rattle.tile_core.proofs.Holding.{AreParted}
-use Rattle.tile_core.proofs.Coming.{IsRoom, holds_removed, holds_installed, holds_by}
+use Rattle.tile_core.proofs.Holding.{HoldsSome}
+use Rattle.tile_core.proofs.Coming.{parted_by, holds_removed, holds_installed, holds_by}
 use Rattle.tile_core.proofs.Standing.{AreLabelled, touched_is, if_stands, standing_is, first_cycle, next_standing}
-use Rattle.tile_core.proofs.Sites.{IsSite, site_part, site_granted, IsGranted, load_has, loads_keyed, site_granted_is}
-use Rattle.tile_core.proofs.Folding.{IsTile, same_from, touches, GoesAlong, granted_without, AreThere, HaveParts, fold_out}
+use Rattle.tile_core.proofs.Sites.{IsSite, site_part, site_granted, IsGranted, loads_keyed, site_granted_is}
+use Rattle.tile_core.proofs.Folding.{IsTile, same_from, touches, GoesAlong, granted_without, AreThere, have_parts, fold_out}
 use Rattle.tile_core.proofs.Rooms.{AreStanding}
 use Rattle.tile_core.proofs.Starting.{granted_with, views_with, AreStarts, fold_in}
 use Rattle.grant_tables.proofs.Laws.{ended_stood, begun_stands, begun_late, stays_stands}
@@ -32,38 +30,11 @@ pub goes_installed : (world : World) (slots : ℕ) (parts : ℕ → Option Part)
 goes_installed world slots parts cycle = record {
   by = λ granted later view other t same same_view h. installed_by slots parts granted later t same h;
   holds = λ granted view t h. h;
-  leaves = λ granted later view t i part start h is begins gone stay. installed_removed world slots parts granted later t i part start h is begins gone stay;
-  comes = λ granted later view after t i part h room now stay opens same. installed_installed world slots parts granted later t i part cycle h room.free now stay;
+  leaves = λ granted later view t i part start h leaving gone. installed_removed world slots parts granted later t i part start h leaving gone;
+  comes = λ granted later view after t i part h room opens. installed_installed world slots parts granted later t i part cycle h room.free opens.begun;
 }
 
--- the tile holds the parts, whatever the starts by the parts' numbers, and those that are installed are
--- parted
-pub record HoldsSome (times : FrameTimes) (parts : ℕ → Option Part) (cycle : ℕ) (granted : ℕ → Option ℕ) (view : ℕ → PartState) (t : TileState) : Type 0 where
-  pub starts : ℕ → ℕ
-  pub parted : AreParted parts granted
-  pub holds : Holds times parts granted starts view cycle t
-
--- parts of which no more are installed
-parted_by : (parts : ℕ → Option Part) (granted later : ℕ → Option ℕ) → ((place s : ℕ) → later place ≡ Some s → granted place ≡ Some s) → AreParted parts granted → AreParted parts later
-parted_by parts granted later were parted = λ i j one other s e differ one_is one_begins other_is other_begins.
-    parted i j one other s e differ one_is (were i s one_begins) other_is (were j e other_begins)
-
--- one more, for which there is room
-parted_with : (slots : ℕ) (parts : ℕ → Option Part) (granted later : ℕ → Option ℕ) (t : TileState) (i : ℕ) (part : Part) → IsRoom slots parts granted t i part → ((place : ℕ) → place ≢ i → later place ≡ granted place) → AreParted parts granted → AreParted parts later
-parted_with slots parts granted later t i part room stay parted a b one other s e differ one_is one_begins other_is other_begins =
-    let own : (place : ℕ) (q : Part) → place ≡ i → parts place ≡ Some q → part ≡ q = λ place q here is. same_Some part q (sym room.free.part_is ∙ ap parts (sym here) ∙ is) in
-    let was : (place n : ℕ) → place ≢ i → later place ≡ Some n → granted place ≡ Some n = λ place n apart begins. sym (stay place apart) ∙ begins in
-    elim (cases_eq a i) [
-      | inl here ↦
-          let there : b ≢ i = λ also. differ (here ∙ sym also) in
-          subst (λ (q : Part). ArePartedParts q other) (own a one here one_is) (room.parted b other e other_is (was b e there other_begins))
-      | inr apart ↦ elim (cases_eq b i) [
-        | inl here ↦
-            parted_sym other one (subst (λ (q : Part). ArePartedParts q one) (own b other here other_is) (room.parted a one s one_is (was a s apart one_begins)))
-        | inr also ↦ parted a b one other s e differ one_is (was a s apart one_begins) other_is (was b e also other_begins)
-      ]
-    ]
-
+-- and so do the parts that the tile holds
 pub goes_holds : (world : World) (times : FrameTimes) (parts : ℕ → Option Part) (cycle : ℕ) → GoesAlong world times.slots parts cycle (HoldsSome times parts cycle)
 goes_holds world times parts cycle = record {
   by = λ granted later view other t same same_view h. record {
@@ -72,25 +43,9 @@ goes_holds world times parts cycle = record {
     holds = holds_by times parts granted later h.starts view other cycle t same same_view h.holds;
   };
   holds = λ granted view t h. h.holds.installed;
-  leaves = λ granted later view t i part start h is begins gone stay. record {
-    starts = h.starts;
-    parted = parted_by parts granted later (λ place s then. sym (stay place (λ here. none-some s (sym gone ∙ ap later (sym here) ∙ then))) ∙ then) h.parted;
-    holds = holds_removed world times parts granted later h.starts view cycle t i part start h.holds is h.parted begins gone stay;
-  };
-  comes = λ granted later view after t i part h room now stay opens same. record {
-    starts = λ n. cond (n == number_of part) cycle (h.starts n);
-    parted = parted_with times.slots parts granted later t i part room stay h.parted;
-    holds = holds_installed world times parts granted later h.starts (λ n. cond (n == number_of part) cycle (h.starts n)) view after cycle t i part h.holds room now stay
-        (ap (λ b. cond b cycle (h.starts (number_of part))) (eq-eqb (number_of part) (number_of part) refl))
-        (λ n apart. ap (λ b. cond b cycle (h.starts n)) (ne_eqb n (number_of part) apart)) opens same;
-  };
+  leaves = λ granted later view t i part start h leaving gone. holds_removed world times parts granted later view cycle t i part start h leaving gone;
+  comes = λ granted later view after t i part h room opens. holds_installed world times parts granted later view after cycle t i part h room opens;
 }
-
--- each load of a tile has a part
-pub have_parts : (world : World) (all loads : List LoadName) (grants : List Grant) (number : ℕ) → IsSite world all loads grants number → HaveParts (site_part world number loads) loads
-have_parts world all loads grants number site place load there =
-    let has = load_has world all loads grants number place load site there in
-    (has.0, ap (λ (o : Option LoadName). option_and_then (λ (l : LoadName). part_on world number l.bundle) o) there ∙ has.1)
 
 -- the grant of its own label is the grant
 pub own_grant : (world : World) (all loads : List LoadName) (grants : List Grant) (number k : ℕ) (grant : Grant) (label : Label) → IsSite world all loads grants number → slice_get grants k ≡ Some grant → grant.label ≡ label → grant_of grants label ≡ Some grant
@@ -167,13 +122,13 @@ next_granted world all loads grants number slot place site = next_by world grant
 -- a tile after the grants that end in its slot, and after those that begin in it
 pub ended : (world : World) (all loads : List LoadName) (grants : List Grant) (number slot cycle : ℕ) (R : (ℕ → Option ℕ) → (ℕ → PartState) → TileState → Type 0) (view : ℕ → PartState) (t : TileState) → IsSite world all loads grants number → GoesAlong world world.platform.partition_slots (site_part world number loads) cycle R → IsTile number slot loads world.platform.partition_slots t → R (site_granted world grants slot loads) view t → R (granted_mid world grants slot loads) view (with_ends world grants t) × IsTile number slot loads world.platform.partition_slots (with_ends world grants t)
 ended world all loads grants number slot cycle R view t site goes is holds =
-    let done = fold_out world number slot loads world.platform.partition_slots cycle R goes (loads_keyed world all loads grants number site) (have_parts world all loads grants number site) (ends_in slot) grants (site_granted world grants slot loads) view t site.apart.labelled is (ends_there world all loads grants number slot site) holds in
+    let done = fold_out world number slot loads cycle R goes (loads_keyed world all loads grants number site) (have_parts world all loads grants number site) (ends_in slot) grants (site_granted world grants slot loads) view t site.apart.labelled is (ends_there world all loads grants number slot site) holds in
     let P : ℕ → Type 0 = λ at. (let s = fold (after_end world) t (filter (ends_in at) grants) in R (granted_mid world grants slot loads) view s × IsTile number slot loads world.platform.partition_slots s) in
     subst P (sym is.at_is) done
 
 pub begun : (world : World) (all loads : List LoadName) (grants : List Grant) (number slot : ℕ) (R : (ℕ → Option ℕ) → (ℕ → PartState) → TileState → Type 0) (view : ℕ → PartState) (t : TileState) → IsSite world all loads grants number → GoesAlong world world.platform.partition_slots (site_part world number loads) (slot * world.platform.slot_cycles) R → IsTile number slot loads world.platform.partition_slots t → R (granted_mid world grants slot loads) view t → R (site_granted world grants (slot + 1) loads) (views_with world (begins_in slot) grants loads (site_part world number loads) view) (with_starts world grants t) × IsTile number slot loads world.platform.partition_slots (with_starts world grants t)
 begun world all loads grants number slot R view t site goes is holds =
-    let done = fold_in world all loads grants number slot slot R site goes (have_parts world all loads grants number site) (begins_in slot) grants (granted_mid world grants slot loads) view t site.apart.labelled is (mid_starts world all loads grants number slot site) (mid_stands world all loads grants number slot site) holds in
-    let now = goes.by (granted_with (slot * world.platform.slot_cycles) (begins_in slot) grants loads (granted_mid world grants slot loads)) (site_granted world grants (slot + 1) loads) (views_with world (begins_in slot) grants loads (site_part world number loads) view) (views_with world (begins_in slot) grants loads (site_part world number loads) view) _ (λ place. sym (next_granted world all loads grants number slot place site)) (λ place part is. refl) done.0 in
+    let done = fold_in world number slot loads all grants slot R site goes (begins_in slot) grants (granted_mid world grants slot loads) view t site.apart.labelled (mid_starts world all loads grants number slot site) (record { holds = holds; tile = is; standing = mid_stands world all loads grants number slot site }) in
+    let now = goes.by (granted_with (slot * world.platform.slot_cycles) (begins_in slot) grants loads (granted_mid world grants slot loads)) (site_granted world grants (slot + 1) loads) (views_with world (begins_in slot) grants loads (site_part world number loads) view) (views_with world (begins_in slot) grants loads (site_part world number loads) view) _ (λ place. sym (next_granted world all loads grants number slot place site)) (λ place part is. refl) done.holds in
     let P : ℕ → Type 0 = λ at. (let s = fold (after_start world) t (filter (begins_in at) grants) in R (site_granted world grants (slot + 1) loads) (views_with world (begins_in slot) grants loads (site_part world number loads) view) s × IsTile number slot loads world.platform.partition_slots s) in
-    subst P (sym is.at_is) (now, done.1)
+    subst P (sym is.at_is) (now, done.tile)

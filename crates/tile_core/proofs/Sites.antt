@@ -117,13 +117,23 @@ indices_differ world all loads grants number slot i j s e site differ a b = λ s
     let grant : a.grant ≡ b.grant = same_Some a.grant b.grant (sym a.granted ∙ ap (slice_get grants) same ∙ b.granted) in
     differ (loads_keyed world all loads grants number site i j a.load b.load a.there b.there (sym a.label ∙ ap (λ (g : Grant). g.label) grant ∙ b.label))
 
+-- the part of a load at a place of the tile, whose grant stands at a slot
+pub record IsStandingPart (world : World) (grants : List Grant) (number slot : ℕ) (loads : List LoadName) (place : ℕ) (part : Part) : Type 0 where
+  pub start : ℕ
+  pub granted : IsGranted world grants slot loads place start
+  pub is : site_part world number loads place ≡ Some part
+
 -- the parts of two loads whose grants stand in one slot share no partition slot and no byte
-pub granted_disjoint : (world : World) (all loads : List LoadName) (grants : List Grant) (number slot i j s e : ℕ) (one other : Part) → IsSite world all loads grants number → i ≢ j → IsGranted world grants slot loads i s → IsGranted world grants slot loads j e → site_part world number loads i ≡ Some one → site_part world number loads j ≡ Some other → AreDisjoint one other
-granted_disjoint world all loads grants number slot i j s e one other site differ a b one_is other_is =
-    let a_part = site_part_is world all loads grants number i one site one_is in
-    let b_part = site_part_is world all loads grants number j other site other_is in
-    standing_disjoint world grants slot a.index b.index a.grant b.grant one other site.apart (indices_differ world all loads grants number slot i j s e site differ a b) a.granted b.granted a.stands b.stands
-    (granted_part world all loads grants number slot i s one site a one_is) (granted_part world all loads grants number slot j e other site b other_is) (a_part.on.tile ∙ sym b_part.on.tile)
+pub granted_disjoint : (world : World) (all loads : List LoadName) (grants : List Grant) (number slot i j : ℕ) (one other : Part) → IsSite world all loads grants number → i ≢ j → IsStandingPart world grants number slot loads i one → IsStandingPart world grants number slot loads j other → AreDisjoint one other
+granted_disjoint world all loads grants number slot i j one other site differ one_part other_part =
+    let a = one_part.granted in
+    let b = other_part.granted in
+    let a_part = site_part_is world all loads grants number i one site one_part.is in
+    let b_part = site_part_is world all loads grants number j other site other_part.is in
+    standing_disjoint world grants slot one other site.apart
+    (record { index = a.index; grant = a.grant; there = a.granted; stands = a.stands; has = granted_part world all loads grants number slot i one_part.start one site a one_part.is })
+    (record { index = b.index; grant = b.grant; there = b.granted; stands = b.stands; has = granted_part world all loads grants number slot j other_part.start other site b other_part.is })
+    (indices_differ world all loads grants number slot i j one_part.start other_part.start site differ a b) (a_part.on.tile ∙ sym b_part.on.tile)
 
 -- a port of a grant's part is among the grant's resources
 port_of : (world : World) (grant : Grant) (part : Part) (k : ℕ) → HasPart world grant part → k < length part.ports → (place : ℕ) × (slice_get (grant_resources world grant) place ≡ Some (Port part.tile (get_or part.ports k 0)))
@@ -132,13 +142,16 @@ port_of world grant part k has inside =
     (held.0, ap (λ (found : Option Bundle). slice_get (option_map_or (resources_of world.platform) found []) held.0) has.bundled ∙ held.1)
 
 -- nor a port
-pub granted_ports : (world : World) (all loads : List LoadName) (grants : List Grant) (number slot i j s e : ℕ) (one other : Part) → IsSite world all loads grants number → i ≢ j → IsGranted world grants slot loads i s → IsGranted world grants slot loads j e → site_part world number loads i ≡ Some one → site_part world number loads j ≡ Some other → ArePartedPorts one.ports other.ports
-granted_ports world all loads grants number slot i j s e one other site differ a b one_is other_is k m inside within same =
-    let a_part = site_part_is world all loads grants number i one site one_is in
-    let b_part = site_part_is world all loads grants number j other site other_is in
-    let a_port = port_of world a.grant one k (granted_part world all loads grants number slot i s one site a one_is) inside in
-    let b_port = port_of world b.grant other m (granted_part world all loads grants number slot j e other site b other_is) within in
+pub granted_ports : (world : World) (all loads : List LoadName) (grants : List Grant) (number slot i j : ℕ) (one other : Part) → IsSite world all loads grants number → i ≢ j → IsStandingPart world grants number slot loads i one → IsStandingPart world grants number slot loads j other → ArePartedPorts one.ports other.ports
+granted_ports world all loads grants number slot i j one other site differ one_part other_part k m inside within same =
+    let a = one_part.granted in
+    let b = other_part.granted in
+    let a_part = site_part_is world all loads grants number i one site one_part.is in
+    let b_part = site_part_is world all loads grants number j other site other_part.is in
+    let a_port = port_of world a.grant one k (granted_part world all loads grants number slot i one_part.start one site a one_part.is) inside in
+    let b_port = port_of world b.grant other m (granted_part world all loads grants number slot j other_part.start other site b other_part.is) within in
     let resource : Port other.tile (get_or other.ports m 0) ≡ Port one.tile (get_or one.ports k 0) = ap₂ Port (b_part.on.tile ∙ sym a_part.on.tile) (sym same) in
-    indices_differ world all loads grants number slot i j s e site differ a b
-    (one_holder world grants slot a.index b.index a_port.0 b_port.0 a.grant b.grant (Port one.tile (get_or one.ports k 0)) site.apart
-    (present_now grants slot a.index a.grant a.granted a.stands) (present_now grants slot b.index b.grant b.granted b.stands) a_port.1 (b_port.1 ∙ ap (λ (r : Resource). Some r) resource))
+    indices_differ world all loads grants number slot i j one_part.start other_part.start site differ a b
+    (one_holder world grants slot (Port one.tile (get_or one.ports k 0)) site.apart
+    (record { index = a.index; grant = a.grant; present = present_now grants slot a.index a.grant a.granted a.stands; place = a_port.0; held = a_port.1 })
+    (record { index = b.index; grant = b.grant; present = present_now grants slot b.index b.grant b.granted b.stands; place = b_port.0; held = b_port.1 ∙ ap (λ (r : Resource). Some r) resource }))

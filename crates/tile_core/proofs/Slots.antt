@@ -26,14 +26,14 @@ use Rattle.tile_core.specs.Law.{TilesGoOn, HoldsPorts, HoldsNext}
 use Rattle.tile_core.proofs.Installed.{installed_same}
 use Rattle.tile_core.proofs.Ports.{change_at, with_own_if}
 use Rattle.tile_core.proofs.Viewing.{granted_is, opened_is, exchange_of, exchange_is, views_are}
-use Rattle.tile_core.proofs.Holding.{AreParted}
+use Rattle.tile_core.proofs.Holding.{AreParted, HoldsSome}
 use Rattle.tile_core.proofs.Coming.{holds_by}
 use Rattle.tile_core.proofs.Going.{holds_going}
-use Rattle.tile_core.proofs.Sites.{IsSite, site_granted, site_granted_is}
+use Rattle.tile_core.proofs.Sites.{IsSite, site_granted_is}
 use Rattle.tile_core.proofs.Folding.{IsTile, GoesAlong}
-use Rattle.tile_core.proofs.Rooms.{AreStanding, parted_at}
+use Rattle.tile_core.proofs.Rooms.{parted_at}
 use Rattle.tile_core.proofs.Starting.{views_with}
-use Rattle.tile_core.proofs.Settling.{HoldsSome, goes_installed, goes_holds, ended, begun}
+use Rattle.tile_core.proofs.Settling.{goes_installed, goes_holds, ended, begun}
 use Rattle.grant_tables.proofs.Laws.{tables_go_on}
 use Rattle.tile_core.proofs.Exchanges.{holds_beside, holds_changed, delivered, holds_delivered}
 use Rattle.tile_core.proofs.Made.{frame_is, IsAlike, alike_more, made_alike, parts_alike, IsKept, kept_more}
@@ -138,8 +138,9 @@ slot_goes_on world loads grants inputs t sound apart of made fits = record {
 -- parts that are installed at a slot share no byte and no port
 parted : (world : World) (all : List LoadName) (grants : List Grant) (slot : ℕ) (t : TileState) → IsSite world all t.loads grants t.number → AreParted (load_part world t) (granted_from world grants slot t)
 parted world all grants slot t site i j one other s e differ one_is one_begins other_is other_begins =
-    let standing : AreStanding world grants slot t.loads (site_granted world grants slot t.loads) = λ place start begins. site_granted_is world grants slot t.loads place start begins in
-    parted_at world all t.loads grants t.number slot (site_granted world grants slot t.loads) i j s e one other site standing differ (standing i s one_begins) other_begins one_is other_is
+    parted_at world all t.loads grants t.number slot i j one other site differ
+    (record { start = s; granted = site_granted_is world grants slot t.loads i s one_begins; is = one_is })
+    (record { start = e; granted = site_granted_is world grants slot t.loads j e other_begins; is = other_is })
 
 -- once the grants of its slot have ended and begun, a tile holds the parts, those opened that begin
 pub settled_holds : (world : World) (all : List LoadName) (grants : List Grant) (view : ℕ → PartState) (t : TileState) → IsSoundWorld world all → IsApart world grants → AreOfLoads all grants → IsMadeFor world all t → HoldsGranted world grants view t → HoldsSome (frame_of world.platform) (load_part world t) (t.at * world.platform.slot_cycles) (granted_from world grants (t.at + 1) t) (views_with world (begins_in t.at) grants t.loads (load_part world t) view) (with_starts world grants (with_ends world grants t))

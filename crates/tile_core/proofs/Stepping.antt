@@ -1,7 +1,5 @@
 -- A loop that writes over each item of a list, by a step that isn't a function of the item.
-use Rattle.std.proofs.Common.{◌≡◌, ℕ, ◌+◌, ◌<◌, List, [], ◌∷◌, map, take, drop, set, get_or, length, length-set, get_or-set_other, Some, inl, inr, refl, sym, ap, subst, ◌∙◌, arith}
-use Rattle.std.specs.List.{slice_get}
-use Rattle.std.specs.Option.{unwrap_or}
+use Rattle.std.proofs.Common.{◌≡◌, ℕ, ◌+◌, ◌<◌, List, [], ◌∷◌, map, take, drop, set, get_or, length, length-set, get_or-set_other, inl, inr, refl, sym, ap, subst, ◌∙◌, arith}
 use Rattle.std.proofs.lemmas.Bool.{cases_eq}
 use Rattle.std.proofs.lemmas.Option.{slice_get_within, slice_get_read, get_or_from_slice_get}
 use Rattle.std.proofs.lemmas.List.{drop_more, drop-set-lt}
@@ -30,12 +28,6 @@ all_seen f g xs ys i end same so_far = grind (arith, common_steps)
 pub map_map : {X Y Z : Type 0} (g : Y → Z) (f : X → Y) (xs : List X) → map (λ x. g (f x)) xs ≡ map g (map f xs)
 map_map g f [] = refl
 map_map g f (x ∷ xs) = ap (λ zs. g (f x) ∷ zs) (map_map g f xs)
-
--- what stands at each place is related to itself
-pub related_same : {X : Type 0} (R : X → X → Type 0) (xs ys : List X) → ((x : X) → R x x) → ys ≡ xs → AreRelated R xs ys
-related_same {X} R xs ys same is place before after at there =
-    let one : Some before ≡ Some after = sym at ∙ sym (ap (λ (zs : List X). slice_get zs place) is) ∙ there in
-    subst (R before) (ap (λ o. unwrap_or o before) one) (same before)
 
 -- the next item is written by one to which it is related
 pub related_more : {X : Type 0} (R : X → X → Type 0) (xs ys : List X) (i : ℕ) (y d : X) → i < length ys → length ys ≡ length xs → drop i ys ≡ drop i xs → R (get_or ys i d) y → AreRelated R xs ys → AreRelated R xs (set ys i y)

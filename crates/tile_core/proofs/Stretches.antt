@@ -223,15 +223,42 @@ sound_rows world t s served offset n tile is =
     let P : TileState → Type 0 = λ u. IsSoundTile world u in
     subst P (sym is) (sound_alike world t (record t { kernel = kernel_rows t.kernel served offset n }) (rows_alike t served offset n) tile)
 
+-- cycles in three stretches: so many from one on, of which the first are rows of the microkernel, the next
+-- cycles of the part that is held, and the others rows again; and the places of the first two in the frame
+pub record Cut : Type 0 where
+  pub from : ℕ
+  pub count : ℕ
+  pub rows : ℕ
+  pub held : ℕ
+  pub at : FramePlace
+  pub next : FramePlace
+
+-- the cycles that are left for the third
+abbrev pub left : Cut → ℕ
+left cut = cut.count - cut.rows - cut.held
+
+-- the cycle at which the third begins
+abbrev pub last : Cut → ℕ
+last cut = cut.from + cut.rows + cut.held
+
 -- how the cycles of a slot are cut: no row past the microkernel's cycles, none of a part before them or
 -- past its instance, and then rows of the next instance
-pub record IsCut (f : FrameTimes) (from len n1 n2 : ℕ) (at0 at1 : FramePlace) : Type 0 where
+pub record IsCut (f : FrameTimes) (cut : Cut) : Type 0 where
   pub frame : IsFrame f
-  pub short : len ≤ 64
-  pub place0 : at0 ≡ frame_place f from
-  pub place1 : at1 ≡ frame_place f (from + n1)
-  pub first : n1 ≡ min len (f.kernel - at0.offset)
-  pub second : n2 ≡ min (len - n1) (instance_cycles f - at1.offset)
+  pub short : cut.count ≤ 64
+  pub at_is : cut.at ≡ frame_place f cut.from
+  pub next_is : cut.next ≡ frame_place f (cut.from + cut.rows)
+  pub first : cut.rows ≡ min cut.count (f.kernel - cut.at.offset)
+  pub second : cut.held ≡ min (cut.count - cut.rows) (instance_cycles f - cut.next.offset)
+
+-- the first two stretches of a sound tile's cycles in its frame: the tile before, after the first, and after
+-- the second
+pub record AreStretches (world : World) (f : FrameTimes) (cut : Cut) (t one two : TileState) : Type 0 where
+  pub sound : IsSoundTile world t
+  pub times : f ≡ t.kernel.times
+  pub is_cut : IsCut f cut
+  pub first : one ≡ record t { kernel = kernel_rows t.kernel cut.at.served cut.at.offset cut.rows }
+  pub second : two ≡ ran_held (load_part world one) world.platform.costs (cut.from + cut.rows) cut.held one one.kernel.held
 
 offset_is : (f : FrameTimes) (c : ℕ) (at : FramePlace) → at ≡ frame_place f c → at.offset ≡ offset_at f c
 offset_is f c at is = ap (λ (p : FramePlace). p.offset) is
@@ -242,98 +269,99 @@ served_is f c at is = ap (λ (p : FramePlace). p.served) is
 below_end : (f : FrameTimes) (c : ℕ) → IsFrame f → offset_at f c < instance_cycles f
 below_end f c frame = let some = frame.partition_least in mod_below c (instance_cycles f) (omega arith)
 
-first_early : (f : FrameTimes) (from len n1 n2 : ℕ) (at0 at1 : FramePlace) → IsCut f from len n1 n2 at0 at1 → 0 < n1 → offset_at f from + n1 ≤ f.kernel
-first_early f from len n1 n2 at0 at1 cut some = let o = offset_is f from at0 cut.place0 in let n = cut.first in omega arith
+first_early : (f : FrameTimes) (cut : Cut) → IsCut f cut → 0 < cut.rows → offset_at f cut.from + cut.rows ≤ f.kernel
+first_early f cut is some = let o = offset_is f cut.from cut.at is.at_is in let n = is.first in omega arith
 
 -- where a part has cycles, the microkernel's are over
-second_late : (f : FrameTimes) (from len n1 n2 : ℕ) (at0 at1 : FramePlace) → IsCut f from len n1 n2 at0 at1 → 0 < n2 → f.kernel ≤ offset_at f (from + n1)
-second_late f from len n1 n2 at0 at1 cut some =
-    let o = offset_is f from at0 cut.place0 in
-    let n = cut.first in
-    let m = cut.second in
-    let part = cut.frame.partition_least in
-    elim (cases_lt (offset_at f from) f.kernel) [
-      | inl early ↦ let here = (within f from n1 (omega arith)).1 in omega arith
+second_late : (f : FrameTimes) (cut : Cut) → IsCut f cut → 0 < cut.held → f.kernel ≤ offset_at f (cut.from + cut.rows)
+second_late f cut is some =
+    let o = offset_is f cut.from cut.at is.at_is in
+    let n = is.first in
+    let m = is.second in
+    let part = is.frame.partition_least in
+    elim (cases_lt (offset_at f cut.from) f.kernel) [
+      | inl early ↦ let here = (within f cut.from cut.rows (omega arith)).1 in omega arith
       | inr late ↦
-          let none : from + n1 ≡ from = omega arith in
+          let none : cut.from + cut.rows ≡ cut.from = omega arith in
           subst (λ (c : ℕ). f.kernel ≤ offset_at f c) (sym none) late
     ]
 
-second_within : (f : FrameTimes) (from len n1 n2 : ℕ) (at0 at1 : FramePlace) → IsCut f from len n1 n2 at0 at1 → 0 < n2 → offset_at f (from + n1) + n2 ≤ instance_cycles f
-second_within f from len n1 n2 at0 at1 cut some =
-    let o = offset_is f (from + n1) at1 cut.place1 in let m = cut.second in let end = below_end f (from + n1) cut.frame in omega arith
-
--- where rows are left, they begin an instance
-third_early : (f : FrameTimes) (from len n1 n2 n3 : ℕ) (at0 at1 : FramePlace) → IsCut f from len n1 n2 at0 at1 → n3 ≡ len - n1 - n2 → 0 < n3 → offset_at f (from + n1 + n2) + n3 ≤ f.kernel
-third_early f from len n1 n2 n3 at0 at1 cut is some =
-    let o = offset_is f (from + n1) at1 cut.place1 in
-    let m = cut.second in
-    let end = below_end f (from + n1) cut.frame in
-    let least = cut.frame.kernel_least in
-    let short = cut.short in
-    let begins = around f (from + n1) n2 (omega arith) (omega arith) in
+second_within : (f : FrameTimes) (cut : Cut) → IsCut f cut → 0 < cut.held → offset_at f (cut.from + cut.rows) + cut.held ≤ instance_cycles f
+second_within f cut is some =
+    let o = offset_is f (cut.from + cut.rows) cut.next is.next_is in
+    let m = is.second in
+    let end = below_end f (cut.from + cut.rows) is.frame in
     omega arith
 
--- the second stretch, in cycles
-pub second_is : (world : World) (t s1 s2 : TileState) (f : FrameTimes) (from len n1 n2 : ℕ) (at0 at1 : FramePlace) → IsSoundTile world t → f ≡ t.kernel.times → IsCut f from len n1 n2 at0 at1 → s1 ≡ record t { kernel = kernel_rows t.kernel at0.served at0.offset n1 } → s2 ≡ ran_held (load_part world s1) world.platform.costs (from + n1) n2 s1 s1.kernel.held → s2 ≡ after_steps (tile_cycle (load_part world s1) world.platform.costs) (from + n1) n2 s1
-second_is world t s1 s2 f from len n1 n2 at0 at1 tile same cut first second =
-    let sound = sound_rows world t s1 at0.served at0.offset n1 tile first in
-    let times : f ≡ s1.kernel.times = same ∙ sym (rows_times t.kernel at0.served at0.offset n1) ∙ ap (λ (u : TileState). u.kernel.times) (sym first) in
-    let Late : FrameTimes → Type 0 = λ f. 0 < n2 → f.kernel ≤ offset_at f (from + n1) in
-    let Low : FrameTimes → Type 0 = λ f. 0 < n2 → offset_at f (from + n1) + n2 ≤ instance_cycles f in
-    second
-    ∙ some_held (load_part world s1) world.platform.costs (from + n1) n2 s1
-    (subst Late times (second_late f from len n1 n2 at0 at1 cut)) (subst Low times (second_within f from len n1 n2 at0 at1 cut))
-    (fine_parts world sound.loads s1 sound.sound.catalog sound.made)
+-- where rows are left, they begin an instance
+third_early : (f : FrameTimes) (cut : Cut) → IsCut f cut → 0 < left cut → offset_at f (last cut) + left cut ≤ f.kernel
+third_early f cut is some =
+    let o = offset_is f (cut.from + cut.rows) cut.next is.next_is in
+    let m = is.second in
+    let end = below_end f (cut.from + cut.rows) is.frame in
+    let least = is.frame.kernel_least in
+    let short = is.short in
+    let begins = around f (cut.from + cut.rows) cut.held (omega arith) (omega arith) in
+    omega arith
 
-first_is : (world : World) (t s1 : TileState) (f : FrameTimes) (from len n1 n2 : ℕ) (at0 at1 : FramePlace) → f ≡ t.kernel.times → IsCut f from len n1 n2 at0 at1 → s1 ≡ record t { kernel = kernel_rows t.kernel at0.served at0.offset n1 } → s1 ≡ after_steps (tile_cycle (load_part world t) world.platform.costs) from n1 t
-first_is world t s1 f from len n1 n2 at0 at1 same cut first =
-    let Early : FrameTimes → Type 0 = λ f. 0 < n1 → offset_at f from + n1 ≤ f.kernel in
-    first
-    ∙ ap₂ (λ (s o : ℕ). let u : TileState = record t { kernel = kernel_rows t.kernel s o n1 } in u) (served_is f from at0 cut.place0 ∙ ap (λ (f : FrameTimes). served_at f from) same) (offset_is f from at0 cut.place0 ∙ ap (λ (f : FrameTimes). offset_at f from) same)
-    ∙ some_rows (load_part world t) world.platform.costs from n1 t (subst IsFrame same cut.frame) (subst Early same (first_early f from len n1 n2 at0 at1 cut))
+-- the first stretch, in cycles
+first_is : (world : World) (f : FrameTimes) (cut : Cut) (t one two : TileState) → AreStretches world f cut t one two → one ≡ after_steps (tile_cycle (load_part world t) world.platform.costs) cut.from cut.rows t
+first_is world f cut t one two are =
+    let Early : FrameTimes → Type 0 = λ f. 0 < cut.rows → offset_at f cut.from + cut.rows ≤ f.kernel in
+    are.first
+    ∙ ap₂ (λ (s o : ℕ). let u : TileState = record t { kernel = kernel_rows t.kernel s o cut.rows } in u) (served_is f cut.from cut.at are.is_cut.at_is ∙ ap (λ (f : FrameTimes). served_at f cut.from) are.times) (offset_is f cut.from cut.at are.is_cut.at_is ∙ ap (λ (f : FrameTimes). offset_at f cut.from) are.times)
+    ∙ some_rows (load_part world t) world.platform.costs cut.from cut.rows t (subst IsFrame are.times are.is_cut.frame) (subst Early are.times (first_early f cut are.is_cut))
+
+-- the second
+second_is : (world : World) (f : FrameTimes) (cut : Cut) (t one two : TileState) → AreStretches world f cut t one two → two ≡ after_steps (tile_cycle (load_part world one) world.platform.costs) (cut.from + cut.rows) cut.held one
+second_is world f cut t one two are =
+    let sound = sound_rows world t one cut.at.served cut.at.offset cut.rows are.sound are.first in
+    let times : f ≡ one.kernel.times = are.times ∙ sym (rows_times t.kernel cut.at.served cut.at.offset cut.rows) ∙ ap (λ (u : TileState). u.kernel.times) (sym are.first) in
+    let Late : FrameTimes → Type 0 = λ f. 0 < cut.held → f.kernel ≤ offset_at f (cut.from + cut.rows) in
+    let Low : FrameTimes → Type 0 = λ f. 0 < cut.held → offset_at f (cut.from + cut.rows) + cut.held ≤ instance_cycles f in
+    are.second
+    ∙ some_held (load_part world one) world.platform.costs (cut.from + cut.rows) cut.held one
+    (subst Late times (second_late f cut are.is_cut)) (subst Low times (second_within f cut are.is_cut))
+    (fine_parts world sound.loads one sound.sound.catalog sound.made)
 
 -- the tile after the first two is one of the same frame
-pub second_slots : (world : World) (t s1 s2 : TileState) (f : FrameTimes) (from len n1 n2 : ℕ) (at0 at1 at2 : FramePlace) → IsSoundTile world t → f ≡ t.kernel.times → IsCut f from len n1 n2 at0 at1 → IsPlace f at2 → s1 ≡ record t { kernel = kernel_rows t.kernel at0.served at0.offset n1 } → s2 ≡ ran_held (load_part world s1) world.platform.costs (from + n1) n2 s1 s1.kernel.held → at2.served < s2.kernel.times.slots
-second_slots world t s1 s2 f from len n1 n2 at0 at1 at2 tile same cut valid first second =
-    let sound = sound_rows world t s1 at0.served at0.offset n1 tile first in
-    let kept = cycles_kept world sound.loads world.platform.costs (from + n1) n2 s1 sound.sound.catalog sound.made in
-    let times : f ≡ s2.kernel.times = same ∙ sym (rows_times t.kernel at0.served at0.offset n1) ∙ ap (λ (u : TileState). u.kernel.times) (sym first) ∙ sym kept.alike.frame ∙ ap (λ (u : TileState). u.kernel.times) (sym (second_is world t s1 s2 f from len n1 n2 at0 at1 tile same cut first second)) in
-    subst (λ (f : FrameTimes). at2.served < f.slots) times valid.served
+pub second_slots : (world : World) (f : FrameTimes) (cut : Cut) (t one two : TileState) (third : FramePlace) → AreStretches world f cut t one two → IsPlace f third → third.served < two.kernel.times.slots
+second_slots world f cut t one two third are valid =
+    let sound = sound_rows world t one cut.at.served cut.at.offset cut.rows are.sound are.first in
+    let kept = cycles_kept world sound.loads world.platform.costs (cut.from + cut.rows) cut.held one sound.sound.catalog sound.made in
+    let times : f ≡ two.kernel.times = are.times ∙ sym (rows_times t.kernel cut.at.served cut.at.offset cut.rows) ∙ ap (λ (u : TileState). u.kernel.times) (sym are.first) ∙ sym kept.alike.frame ∙ ap (λ (u : TileState). u.kernel.times) (sym (second_is world f cut t one two are)) in
+    subst (λ (f : FrameTimes). third.served < f.slots) times valid.served
 
 -- the three stretches are the cycles
-pub three_stretches : (world : World) (t s1 s2 s3 : TileState) (f : FrameTimes) (from len n1 n2 n3 : ℕ) (at0 at1 at2 : FramePlace) → IsSoundTile world t → f ≡ t.kernel.times → IsCut f from len n1 n2 at0 at1 → at2 ≡ frame_place f (from + n1 + n2) → n3 ≡ len - n1 - n2 → s1 ≡ record t { kernel = kernel_rows t.kernel at0.served at0.offset n1 } → s2 ≡ ran_held (load_part world s1) world.platform.costs (from + n1) n2 s1 s1.kernel.held → s3 ≡ record s2 { kernel = kernel_rows s2.kernel at2.served at2.offset n3 } → s3 ≡ after_steps (tile_cycle (load_part world t) world.platform.costs) from len t
-three_stretches world t s1 s2 s3 f from len n1 n2 n3 at0 at1 at2 tile same cut place2 rest first second third =
+pub three_stretches : (world : World) (f : FrameTimes) (cut : Cut) (t one two three : TileState) (third : FramePlace) → AreStretches world f cut t one two → third ≡ frame_place f (last cut) → three ≡ record two { kernel = kernel_rows two.kernel third.served third.offset (left cut) } → three ≡ after_steps (tile_cycle (load_part world t) world.platform.costs) cut.from cut.count t
+three_stretches world f cut t one two three third are third_is rest =
     let costs = world.platform.costs in
     let step = tile_cycle (load_part world t) costs in
-    let one = first_is world t s1 f from len n1 n2 at0 at1 same cut first in
-    let two = second_is world t s1 s2 f from len n1 n2 at0 at1 tile same cut first second in
-    let sound = sound_rows world t s1 at0.served at0.offset n1 tile first in
-    let alike1 : IsAlike t s1 = subst (IsAlike t) (sym first) (rows_alike t at0.served at0.offset n1) in
-    let parts1 : load_part world s1 ≡ load_part world t = parts_alike world t s1 alike1 in
-    let kept = cycles_kept world sound.loads costs (from + n1) n2 s1 sound.sound.catalog sound.made in
-    let alike2 : IsAlike s1 s2 = subst (IsAlike s1) (sym two) kept.alike in
-    let times : f ≡ s2.kernel.times = same ∙ sym alike1.frame ∙ sym alike2.frame in
-    let Early : FrameTimes → Type 0 = λ f. 0 < n3 → offset_at f (from + n1 + n2) + n3 ≤ f.kernel in
-    let last : s3 ≡ after_steps step (from + n1 + n2) n3 s2 =
-    third
-    ∙ ap₂ (λ (s o : ℕ). let u : TileState = record s2 { kernel = kernel_rows s2.kernel s o n3 } in u) (served_is f (from + n1 + n2) at2 place2 ∙ ap (λ (f : FrameTimes). served_at f (from + n1 + n2)) times) (offset_is f (from + n1 + n2) at2 place2 ∙ ap (λ (f : FrameTimes). offset_at f (from + n1 + n2)) times)
-    ∙ some_rows (load_part world t) costs (from + n1 + n2) n3 s2 (subst IsFrame times cut.frame) (subst Early times (third_early f from len n1 n2 n3 at0 at1 cut rest)) in
-    let whole : n1 + n2 + n3 ≡ len = let a = cut.first in let b = cut.second in omega arith in
-    last
-    ∙ ap (after_steps step (from + n1 + n2) n3) (two ∙ ap (λ (ps : ℕ → Option Part). after_steps (tile_cycle ps costs) (from + n1) n2 s1) parts1 ∙ ap (after_steps step (from + n1) n2) one)
-    ∙ ap (after_steps step (from + n1 + n2) n3) (sym (steps_split step from n1 n2 t))
-    ∙ ap (λ (c : ℕ). after_steps step c n3 (after_steps step from (n1 + n2) t)) (omega arith)
-    ∙ sym (steps_split step from (n1 + n2) n3 t)
-    ∙ ap (λ (n : ℕ). after_steps step from n t) whole
+    let first = first_is world f cut t one two are in
+    let second = second_is world f cut t one two are in
+    let sound = sound_rows world t one cut.at.served cut.at.offset cut.rows are.sound are.first in
+    let alike1 : IsAlike t one = subst (IsAlike t) (sym are.first) (rows_alike t cut.at.served cut.at.offset cut.rows) in
+    let parts1 : load_part world one ≡ load_part world t = parts_alike world t one alike1 in
+    let kept = cycles_kept world sound.loads costs (cut.from + cut.rows) cut.held one sound.sound.catalog sound.made in
+    let alike2 : IsAlike one two = subst (IsAlike one) (sym second) kept.alike in
+    let times : f ≡ two.kernel.times = are.times ∙ sym alike1.frame ∙ sym alike2.frame in
+    let Early : FrameTimes → Type 0 = λ f. 0 < left cut → offset_at f (last cut) + left cut ≤ f.kernel in
+    let ends : three ≡ after_steps step (last cut) (left cut) two =
+    rest
+    ∙ ap₂ (λ (s o : ℕ). let u : TileState = record two { kernel = kernel_rows two.kernel s o (left cut) } in u) (served_is f (last cut) third third_is ∙ ap (λ (f : FrameTimes). served_at f (last cut)) times) (offset_is f (last cut) third third_is ∙ ap (λ (f : FrameTimes). offset_at f (last cut)) times)
+    ∙ some_rows (load_part world t) costs (last cut) (left cut) two (subst IsFrame times are.is_cut.frame) (subst Early times (third_early f cut are.is_cut)) in
+    let whole : cut.rows + cut.held + left cut ≡ cut.count = let a = are.is_cut.first in let b = are.is_cut.second in omega arith in
+    ends
+    ∙ ap (after_steps step (last cut) (left cut)) (second ∙ ap (λ (ps : ℕ → Option Part). after_steps (tile_cycle ps costs) (cut.from + cut.rows) cut.held one) parts1 ∙ ap (after_steps step (cut.from + cut.rows) cut.held) first)
+    ∙ ap (after_steps step (last cut) (left cut)) (sym (steps_split step cut.from cut.rows cut.held t))
+    ∙ ap (λ (c : ℕ). after_steps step c (left cut) (after_steps step cut.from (cut.rows + cut.held) t)) (omega arith)
+    ∙ sym (steps_split step cut.from (cut.rows + cut.held) (left cut) t)
+    ∙ ap (λ (n : ℕ). after_steps step cut.from n t) whole
 
--- how the code cuts them
-pub cut_is : (world : World) (t : TileState) (f : FrameTimes) (from len n1 n2 left1 left2 : ℕ) (at0 at1 : FramePlace) → IsSoundTile world t → f ≡ t.kernel.times → len ≤ 64 → at0 ≡ frame_place f from → at1 ≡ frame_place f (from + n1) → n1 ≡ min len left1 → left1 ≡ f.kernel - at0.offset → n2 ≡ min (len - n1) left2 → left2 ≡ instance_cycles f - at1.offset → IsCut f from len n1 n2 at0 at1
-cut_is world t f from len n1 n2 left1 left2 at0 at1 tile same short place0 place1 first is1 second is2 = record {
-  frame = subst IsFrame (sym (same ∙ tile.made.frame)) (frame_is world);
-  short = short;
-  place0 = place0;
-  place1 = place1;
-  first = first ∙ ap (min len) is1;
-  second = second ∙ ap (min (len - n1)) is2;
-}
+-- a number that is the least of another and of what is left
+pub least_of : (n count left all : ℕ) → n ≡ min count left → left ≡ all → n ≡ min count all
+least_of n count left all least is = least ∙ ap (min count) is
+
+-- a sound tile's frame is one
+pub tile_frame : (world : World) (t : TileState) (f : FrameTimes) → IsSoundTile world t → f ≡ t.kernel.times → IsFrame f
+tile_frame world t f sound same = subst IsFrame (sym (same ∙ sound.made.frame)) (frame_is world)

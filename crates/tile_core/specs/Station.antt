@@ -21,15 +21,16 @@ pub record StationState : Type 0 where
   pub outs : List Seen
   pub ins : List Seen
 
+-- what contracts see of a station
 abbrev pub station_state : Station → StationState
 station_state station = record
     { tile = station.tile; outs = map out_seen station.outs.items; ins = map in_seen station.ins.items }
 
--- how many tries of a slot there were, and how many in a row, up to the last, came to nothing; each up to the
--- greatest u64
+-- how many tries of a slot there were, up to the greatest u64
 abbrev pub tries_of : Station → ℕ
 tries_of station = station.tries
 
+-- how many tries in a row, up to the last, came to nothing, up to the greatest u64
 abbrev pub still_of : Station → ℕ
 still_of station = station.still
 
@@ -39,6 +40,7 @@ pub record Ends : Type 0 where
   pub outs : List Seen
   pub ins : List Seen
 
+-- these of a station: its ends are told as they were before any flit
 abbrev pub ends_of : StationState → Ends
 ends_of station = record
     { number = station.tile.number; outs = map but_flits station.outs; ins = map but_flits station.ins }
@@ -72,10 +74,11 @@ pub record HasRun (world : World) (loads : List LoadName) (grants : List Grant) 
       ≡ map (run_puts (tile_hardware world loads) world.platform.links grants (came station.ins) link)
       (range_with_len 0 station.tile.at)
 
--- the ring that a station writes, or reads, for a link of a number
+-- the ring that the station of a tile writes for a link of a number
 abbrev pub written_ring : List StationState → ℕ → ℕ → Option LinkName
 written_ring stations tile number = option_and_then (λ station. ring_of station.outs number) (slice_get stations tile)
 
+-- and the ring that it reads for one
 abbrev pub read_ring : List StationState → ℕ → ℕ → Option LinkName
 read_ring stations tile number = option_and_then (λ station. ring_of station.ins number) (slice_get stations tile)
 

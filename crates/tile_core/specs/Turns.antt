@@ -16,10 +16,12 @@ use Rattle.tile_core.specs.Slot.{tile_slot, slot_outputs}
 use Rattle.tile_core.specs.Wires.{in_seen, first_stuck, first_missing, brought, taken_more, set_on}
 use Rattle.tile_core.specs.Station.{StationState, station_state}
 
+-- what a tile lacks where a link into it has no flit, if there is such a link
 abbrev pub lack_in : Option ℕ → Option Lack
 lack_in None = None
 lack_in (Some link) = Some (In link)
 
+-- what it lacks where a flit still waits to be pushed into a link; where none does, what is judged next
 abbrev pub lack_out : Option ℕ → Option Lack → Option Lack
 lack_out None next = next
 lack_out (Some link) next = Some (Out link)
@@ -84,6 +86,7 @@ pub record CanAdvance (station : Station) : Type 0 where
 abbrev pub StaysInLine : Wire LinkIn → Wire LinkIn → Type 0
 StaysInLine old new = (out : LinkOut) → AreInLine out old.end → AreInLine out new.end
 
+-- the same of a writing end
 abbrev pub WritesInLine : Wire LinkOut → Wire LinkOut → Type 0
 WritesInLine old new = (into : LinkIn) → AreInLine old.end into → AreInLine new.end into
 

@@ -44,6 +44,7 @@ pub record Spot : Type 0 where
   pub link : ℕ
   pub place : ℕ
 
+-- the link of an end, and the output or input at which the end stands
 abbrev pub spot_of : Seen → Spot
 spot_of seen = record { link = seen.link; place = seen.place }
 
@@ -55,6 +56,7 @@ output_on tile link = if link.from == tile then Some link.out else None
 abbrev pub input_on : ℕ → Link → Option ℕ
 input_on tile link = if link.to == tile then Some link.input else None
 
+-- one link more before these, with its number and its place, if it has one
 abbrev pub spots_from : ℕ → Option ℕ → List Spot → List Spot
 spots_from number None spots = spots
 spots_from number (Some place) spots = record { link = number; place = place } ∷ spots

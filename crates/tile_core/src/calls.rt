@@ -1,8 +1,10 @@
 //! The calls of all ends of a station.
 
-ghost use Rattle.std.specs.Prelude.{◌≡◌, map, None, All, IsTrue, IsFalse, IsSome, IfSome, is_some, is_none, find, length};
+ghost use Rattle.std.specs.Prelude.{◌≡◌, map, None, All, IsTrue, IsFalse, IsSome, IfSome};
+ghost use Rattle.std.specs.Prelude.{is_some, is_none, find, length};
 ghost use Rattle.flit_link.specs.Link.{sending, receiving, flits_known, places_known};
-ghost use Rattle.tile_core.specs.Wires.{out_seen, in_seen, first_stuck, first_missing, waiting, brought, taken_more, set_on};
+ghost use Rattle.tile_core.specs.Wires.{out_seen, in_seen, first_stuck, first_missing, waiting};
+ghost use Rattle.tile_core.specs.Wires.{brought, taken_more, set_on};
 ghost use Rattle.tile_core.specs.Turns.{StaysInLine, WritesInLine, AreOffered};
 ghost use Rattle.tile_core.specs.inner.Calls.{AreRelated};
 
@@ -77,7 +79,8 @@ pub(crate) fn offer_all(outs: &mut [Wire<LinkOut>]) -> Option<u8>
 pub(crate) fn poll_all(ins: &mut [Wire<LinkIn>]) -> Option<u8>
     ensures seen { map in_seen ins.new ≡ map in_seen ins.old }
     ensures missing { result ≡ first_missing ins.new }
-    ensures none_known { IfSome (find (λ wire. is_none (receiving wire.end)) ins.new) (λ wire. length (flits_known wire.end) ≡ 0) }
+    ensures none_known { IfSome (find (λ wire. is_none (receiving wire.end)) ins.new)
+        (λ wire. length (flits_known wire.end) ≡ 0) }
 {
     for i in 0..ins.len() {
         let wire = &mut ins[i];

@@ -7,7 +7,8 @@ ghost use Rattle.bundle_model.specs.declared.world.Grant.{Grant};
 ghost use Rattle.flit_link.specs.Link.{IsNewOut, IsNewIn, name_of_out, name_of_in};
 ghost use Rattle.tile_core.specs.Tile.{TileState, fresh_tile};
 ghost use Rattle.tile_core.specs.Station.{AreFreshStations, HaveRun, IsFreshStation, station_state};
-ghost use Rattle.tile_core.specs.inner.Joined.{MadeLink, AreJoined, AreNumbered, IsBetween, fresh_end, with_out, with_in};
+ghost use Rattle.tile_core.specs.inner.Joined.{MadeLink, AreJoined, AreNumbered, IsBetween};
+ghost use Rattle.tile_core.specs.inner.Joined.{fresh_end, with_out, with_in};
 
 use crate::station::Station;
 use crate::tile::Tile;
@@ -21,7 +22,9 @@ use std::alloc::Global;
 // Makes the stations of a world, in the order of their tiles, without the ends of any link.
 fn bare_stations(alloc: Global, world: &World, loads: &[LoadName]) -> Result<Vec<Station>, NoMemory>
     requires { IsSoundWorld world.now loads.now }
-    ensures { IfOk result (λ stations. AreJoined (map (fresh_tile world.now loads.now) (range_with_len 0 world.now.platform.tiles)) [] stations.items) }
+    ensures { IfOk result (λ stations.
+        AreJoined (map (fresh_tile world.now loads.now) (range_with_len 0 world.now.platform.tiles)) []
+        stations.items) }
 {
     let mut stations = Vec::with_capacity(alloc, usize::from(world.platform.tiles))?;
     for number in 0..world.platform.tiles {
@@ -37,7 +40,9 @@ fn give_out(station: &mut Station, number: u8, place: u8, end: LinkOut) -> Resul
     requires new { IsNewOut end }
     requires fresh { IsFreshStation station.old }
     ensures fresh { IfOk result (λ done. IsFreshStation station.new) }
-    ensures given { IfOk result (λ done. station_state station.new ≡ record (station_state station.old) { outs = (station_state station.old).outs ++ fresh_end number place (name_of_out end) ∷ [] }) }
+    ensures given { IfOk result (λ done. station_state station.new ≡ record (station_state station.old) {
+      outs = (station_state station.old).outs ++ fresh_end number place (name_of_out end) ∷ [];
+    }) }
 {
     station.outs.push(Wire {
         link: number,
@@ -53,7 +58,9 @@ fn give_in(station: &mut Station, number: u8, place: u8, end: LinkIn) -> Result<
     requires new { IsNewIn end }
     requires fresh { IsFreshStation station.old }
     ensures fresh { IfOk result (λ done. IsFreshStation station.new) }
-    ensures given { IfOk result (λ done. station_state station.new ≡ record (station_state station.old) { ins = (station_state station.old).ins ++ fresh_end number place (name_of_in end) ∷ [] }) }
+    ensures given { IfOk result (λ done. station_state station.new ≡ record (station_state station.old) {
+      ins = (station_state station.old).ins ++ fresh_end number place (name_of_in end) ∷ [];
+    }) }
 {
     station.ins.push(Wire {
         link: number,
@@ -70,7 +77,8 @@ fn leave(stations: &mut [Station], number: u8, link: &Link, out: LinkOut) -> Res
     requires new { IsNewOut out }
     requires fresh { All IsFreshStation stations.old }
     ensures fresh { IfOk result (λ done. All IsFreshStation stations.new) }
-    ensures given { IfOk result (λ done. map station_state stations.new ≡ map (with_out number (name_of_out out) link.now) (map station_state stations.old)) }
+    ensures given { IfOk result (λ done. map station_state stations.new
+        ≡ map (with_out number (name_of_out out) link.now) (map station_state stations.old)) }
 {
     let station = &mut stations[usize::from(link.from)];
     give_out(station, number, link.out, out)?;
@@ -84,7 +92,8 @@ fn enter(stations: &mut [Station], number: u8, link: &Link, into: LinkIn) -> Res
     requires new { IsNewIn into }
     requires fresh { All IsFreshStation stations.old }
     ensures fresh { IfOk result (λ done. All IsFreshStation stations.new) }
-    ensures given { IfOk result (λ done. map station_state stations.new ≡ map (with_in number (name_of_in into) link.now) (map station_state stations.old)) }
+    ensures given { IfOk result (λ done. map station_state stations.new
+        ≡ map (with_in number (name_of_in into) link.now) (map station_state stations.old)) }
 {
     let station = &mut stations[usize::from(link.to)];
     give_in(station, number, link.input, into)?;
@@ -97,7 +106,8 @@ fn join_all(alloc: Global, links: &[Link], stations: &mut [Station]) -> Result<(
     requires between { All (IsBetween (length stations.old)) links.now }
     requires numbered { AreNumbered (map (λ station. station.tile) stations.old) }
     requires bare { AreJoined (map (λ station. station.tile) stations.old) [] stations.old }
-    ensures { IfOk result (λ done. (made : List MadeLink) × (map (λ one. one.link) made ≡ links.now) × AreJoined (map (λ station. station.tile) stations.old) made stations.new) }
+    ensures { IfOk result (λ done. (made : List MadeLink) × (map (λ one. one.link) made ≡ links.now)
+        × AreJoined (map (λ station. station.tile) stations.old) made stations.new) }
 {
     for number in 0..links.len() {
         let (out, into) = link(alloc)?;
@@ -115,7 +125,10 @@ fn joined_stations(
     loads: &[LoadName],
 ) -> Result<Vec<Station>, NoMemory>
     requires { IsSoundWorld world.now loads.now }
-    ensures { IfOk result (λ stations. (made : List MadeLink) × (map (λ one. one.link) made ≡ world.now.platform.links) × AreJoined (map (fresh_tile world.now loads.now) (range_with_len 0 world.now.platform.tiles)) made stations.items) }
+    ensures { IfOk result (λ stations. (made : List MadeLink)
+        × (map (λ one. one.link) made ≡ world.now.platform.links)
+        × AreJoined (map (fresh_tile world.now loads.now) (range_with_len 0 world.now.platform.tiles)) made
+        stations.items) }
 {
     let mut stations = bare_stations(alloc, world, loads)?;
     join_all(

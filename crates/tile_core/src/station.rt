@@ -85,7 +85,8 @@ impl Station {
         requires ready { IsReady world.now schedule.now self.old.tile }
         requires quiet { IsTrue quiet → is_quiet schedule.now.grants.items self.old.tile.at ≡ true }
         requires can { CanAdvance self.old }
-        ensures slot { Advances world.now schedule.now.grants.items self.old.ins.items (station_state self.old) (station_state self.new) }
+        ensures slot { Advances world.now schedule.now.grants.items self.old.ins.items
+            (station_state self.old) (station_state self.new) }
         ensures counts { (self.new.tries ≡ self.old.tries) × (self.new.still ≡ self.old.still) }
         ensures lines { KeepsLines self.old self.new }
         ensures underway { IsUnderway world.now schedule.now self.new.tile }
@@ -104,12 +105,14 @@ impl Station {
         requires ready { IsReady world.now schedule.now self.old.tile }
         requires quiet { IsTrue quiet → is_quiet schedule.now.grants.items self.old.tile.at ≡ true }
         requires can { CanAdvance self.old }
-        ensures slot { Advances world.now schedule.now.grants.items self.old.ins.items (station_state self.old) (station_state self.new) }
+        ensures slot { Advances world.now schedule.now.grants.items self.old.ins.items
+            (station_state self.old) (station_state self.new) }
         ensures counts { (self.new.tries ≡ self.old.tries) × (self.new.still ≡ self.old.still) }
         ensures ends { KeepsEnds (station_state self.old) (station_state self.new) }
         ensures lines { KeepsLines self.old self.new }
         ensures underway { IsUnderway world.now schedule.now self.new.tile }
-        ensures run { (loads : List LoadName) → HasRun world.now loads schedule.now.grants.items (station_state self.old)
+        ensures run { (loads : List LoadName)
+            → HasRun world.now loads schedule.now.grants.items (station_state self.old)
             → HasRun world.now loads schedule.now.grants.items (station_state self.new) }
     {
         self.pass_slot(world, schedule, quiet);
@@ -154,7 +157,8 @@ impl Station {
         ensures still { self.new.still ≡ still_after self.old.still result }
         ensures ends { KeepsEnds (station_state self.old) (station_state self.new) }
         ensures underway { IsUnderway world.now schedule.now self.new.tile }
-        ensures run { (loads : List LoadName) → HasRun world.now loads schedule.now.grants.items (station_state self.old)
+        ensures run { (loads : List LoadName)
+            → HasRun world.now loads schedule.now.grants.items (station_state self.old)
             → HasRun world.now loads schedule.now.grants.items (station_state self.new) }
     {
         self.attempt(world, schedule)

@@ -48,7 +48,18 @@ impl Model for Tile {
 
     ghost Value = { TileState };
 
-    ghost view = { λ t. record { number = t.number; at = t.slot; kernel = t.microkernel; memory = t.bytes; places = t.numbers.items; loads = t.names.items; logs = t.part_logs.items; ports = t.ports.items; tables = t.tables; carried = t.carried } };
+    ghost view = { λ t. record {
+      number = t.number;
+      at = t.slot;
+      kernel = t.microkernel;
+      memory = t.bytes;
+      places = t.numbers.items;
+      loads = t.names.items;
+      logs = t.part_logs.items;
+      ports = t.ports.items;
+      tables = t.tables;
+      carried = t.carried;
+    } };
 }
 
 // The loads with a part on a tile.
@@ -156,7 +167,8 @@ impl Tile {
         requires tile { IsSoundTile world.now self.old }
         requires bounded { (self.old.at + 1) * world.now.platform.slot_cycles < 2 ^ 64 }
         requires counted { All (λ count. count + 1 < 2 ^ 64) self.old.carried }
-        ensures tile { self.new ≡ with_traffic (traffic inputs.now self.old) (with_cycles world.now (with_injection self.old)) }
+        ensures tile { self.new
+            ≡ with_traffic (traffic inputs.now self.old) (with_cycles world.now (with_injection self.old)) }
         ensures links { outputs.new ≡ (traffic inputs.now self.old).links }
     {
         let delivery = self.exchange(inputs, outputs);
@@ -170,7 +182,8 @@ impl Tile {
         requires tile { IsSoundTile world.now self.old }
         requires bounded { (self.old.at + 1) * world.now.platform.slot_cycles < 2 ^ 64 }
         requires counted { All (λ count. count + 1 < 2 ^ 64) self.old.carried }
-        ensures tile { self.new ≡ with_traffic (traffic inputs.now self.old) (with_cycles world.now (with_injection self.old)) }
+        ensures tile { self.new
+            ≡ with_traffic (traffic inputs.now self.old) (with_cycles world.now (with_injection self.old)) }
         ensures links { outputs.new ≡ (traffic inputs.now self.old).links }
     {
         if self.tables.is_free() {
@@ -212,7 +225,8 @@ impl Tile {
         ensures slot { self.new ≡ tile_slot world.now schedule.now.grants.items inputs.now self.old }
         ensures outputs { result ≡ slot_outputs world.now schedule.now.grants.items inputs.now self.old }
         ensures fits { IsFit world.now schedule.now.grants.items self.new }
-        ensures made { (loads : List LoadName) → IsMadeFor world.now loads self.old → IsMadeFor world.now loads self.new }
+        ensures made { (loads : List LoadName) → IsMadeFor world.now loads self.old
+            → IsMadeFor world.now loads self.new }
     {
         let mut outputs = [IDLE; 7];
         self.slot_into(world, schedule, false, inputs, &mut outputs);
@@ -235,7 +249,8 @@ impl Tile {
         ensures slot { self.new ≡ tile_slot world.now schedule.now.grants.items inputs.now self.old }
         ensures outputs { outputs.new ≡ slot_outputs world.now schedule.now.grants.items inputs.now self.old }
         ensures fits { IsFit world.now schedule.now.grants.items self.new }
-        ensures made { (loads : List LoadName) → IsMadeFor world.now loads self.old → IsMadeFor world.now loads self.new }
+        ensures made { (loads : List LoadName) → IsMadeFor world.now loads self.old
+            → IsMadeFor world.now loads self.new }
     {
         self.advance(world, schedule, quiet, inputs, outputs);
     }

@@ -1,5 +1,5 @@
 -- A part that has its ports among those of its tile is answered as if it had them alone.
-use Rattle.std.proofs.Common.{◌≡◌, ℕ, ◌-◌, ◌/◌, ◌%◌, ◌<◌, ◌≤◌, ◌==◌, ⊎_elim, Bool, true, false, cond, nat_lt, List, length, get_or, slice_get, slice_set, Option, Some, None, option_map, Result, Ok, Err, refl, sym, ap, ap₂, ◌∙◌, arith}
+use Rattle.std.proofs.Common.{◌≡◌, ℕ, ◌-◌, ◌/◌, ◌%◌, ◌<◌, ◌≤◌, ◌==◌, ⊎_elim, Bool, true, false, cond, nat_lt, List, length, get_or, slice_get, slice_set, Option, Some, None, option_map, Result, Ok, Err, refl, sym, ap, ◌∙◌, arith}
 use Rattle.std.specs.List.{range_with_len}
 use Rattle.std.specs.Option.{option_and_then}
 use Rattle.std.proofs.lemmas.List.FromFn.{length-range_with_len, get_or-range_with_len}
@@ -25,9 +25,8 @@ use Rattle.trace_log.specs.declared.row.Kind.TheVariants.{Send, Recv}
 use Rattle.trace_log.specs.Log.{Log}
 use Rattle.part_model.specs.declared.device.TheConstants.{TRACE, CYCLE, CYCLEH, SEND, RECV, ROOM, FILL, PORT_BYTES}
 use Rattle.part_model.specs.Answers.{BusState, NumberedPort, traced, register_of, received, port_load, register_load, load_answer, memory_answer, memory_store, sent, port_store, register_store, store_answer}
-use Rattle.part_model.specs.declared.record.Place.{Place}
 use Rattle.part_model.specs.Running.{CycleEnd, ended, left_after, effect_with}
-use Rattle.part_model.specs.Part.{part_bus, settled, log_after}
+use Rattle.part_model.specs.Part.{part_bus}
 use Rattle.tile_mmio.specs.Ports.{no_port, own_ports, other_ports, AreOwn}
 use Rattle.tile_mmio.proofs.Own.{length-own_ports, own_at, own_set, others_kept}
 
@@ -236,25 +235,8 @@ effect_seen b regs (Ok instr) own =
       others = asked.others;
     }
 
-left_is : (b : BusState) (regs : Registers) (here : Result Instr Cause) (outcome : Outcome)
+-- what an instruction leaves of a part's cycles
+pub left_is : (b : BusState) (regs : Registers) (here : Result Instr Cause) (outcome : Outcome)
     → Some outcome ≡ (effect_with part_bus regs b here).outcome → left_after outcome ≡ (effect_with part_bus regs b here).left
 left_is b regs (Err cause) outcome same = ap left_after (same_Some outcome _ same)
 left_is b regs (Ok instr) outcome same = ap left_after (same_Some outcome _ same)
-
--- the part after the effect of an instruction on the tile's bus
-pub completed_seen : (b : BusState) (place : Place) (cycle : ℕ) (regs after : Registers) (pc : ℕ) (here : Result Instr Cause) (outcome : Outcome)
-    (left : ℕ) (bytes : List ℕ) (ports : List SizedPort) (numbers : List ℕ) (before log : Log) → AreOwn b.ports b.numbers
-    → Some outcome ≡ (effect_with part_bus regs b here).outcome → after ≡ (effect_with part_bus regs b here).regs
-    → left ≡ left_after outcome → bytes ≡ (effect_with part_bus regs b here).bus.bytes
-    → ports ≡ (effect_with part_bus regs b here).bus.ports → numbers ≡ b.numbers
-    → before ≡ (effect_with part_bus regs b here).bus.log → log ≡ log_after place cycle pc (Some outcome) before
-    → pc ≡ regs.pc → record { regs = after; left = left; bytes = bytes; ports = own_ports ports numbers; log = log }
-    ≡ settled place cycle regs.pc (effect_with part_bus regs (seen b) here)
-unfolding seen with_own
-completed_seen b place cycle regs after pc here outcome left bytes ports numbers before log own came e-regs e-left e-bytes e-ports e-numbers e-before e-log e-pc =
-    let f = effect_seen b regs here own in
-    let last : left ≡ (effect_with part_bus regs b here).left = e-left ∙ left_is b regs here outcome came in
-    let same : numbers ≡ (effect_with part_bus regs b here).bus.numbers = e-numbers ∙ sym f.numbers in
-    let end : log ≡ log_after place cycle regs.pc (effect_with part_bus regs b here).outcome (effect_with part_bus regs b here).bus.log
-    = e-log ∙ ap (λ (p : ℕ). log_after place cycle p (Some outcome) before) e-pc ∙ ap₂ (log_after place cycle regs.pc) came e-before in
-    rw (f.ended, e-regs, last, e-bytes, e-ports, same, end) refl

@@ -46,8 +46,15 @@ fn store(addr: u32, width: Width, value: u32) -> Access {
     Access::Store(addr, width, value)
 }
 
+// Fills a tile's memory of 64 bytes.
+fn fill(memory: &mut TileMemory, image: &[u32; 16])
+    requires { length memory.old ≡ 64 }
+    ensures { length memory.new ≡ 64 }
+{
+    memory.fill(Region { base: 0, len: 64 }, image);
+}
+
 // A tile's memory of 64 bytes: a program and zeros in the part's region, and ones around it.
-#[tactic(auto, using(crate::proofs::Filled::filled_size))]
 fn tile(alloc: Global, program: [u32; 4]) -> Result<TileMemory, NoMemory>
     ensures { IfOk result (λ memory. length memory ≡ 64) }
 {
@@ -70,7 +77,7 @@ fn tile(alloc: Global, program: [u32; 4]) -> Result<TileMemory, NoMemory>
         0xffff_ffff,
     ];
     let mut memory = TileMemory::new(alloc, 64)?;
-    memory.fill(Region { base: 0, len: 64 }, &image);
+    fill(&mut memory, &image);
     Ok(memory)
 }
 
@@ -150,6 +157,11 @@ fn row(cycle: u64, kind: Kind, value: u32) -> TraceRow {
     }
 }
 
+// Checks all rows of a log.
+fn check_rows(rt: &impl Abort, log: &PartLog, rows: &[TraceRow]) {
+    assert_eq!(rt; log.rows(), rows);
+}
+
 #[test]
 fn answers_accesses(rt: HostRuntime) -> Result<(), Fail> {
     let mut memory = tile(rt.alloc(), TRACES)?;
@@ -208,10 +220,41 @@ fn answers_accesses(rt: HostRuntime) -> Result<(), Fail> {
     }
     let silent = answered(&mut memory, &mut log, 8, store(0x8000_0000, Width::Word, 6));
     assert_eq!(rt; silent, Answer::Done(0));
-    assert_eq!(rt; log.rows(), [row(LATE, Kind::Word, 0xcafe_f00d)].as_slice());
+    check_rows(&rt, &log, &[row(LATE, Kind::Word, 0xcafe_f00d)]);
     assert_eq!(rt; memory.word(3), 0xffff_ffff);
     assert_eq!(rt; memory.word(12), 0xffff_ffff);
     Ok(())
+}
+
+// Checks what the bus of the part with ports 2 and 5 answers to accesses in order.
+fn check_answers(
+    rt: &impl Abort,
+    memory: &mut TileMemory,
+    ports: &mut [Port],
+    log: &mut PartLog,
+    cases: &[(Access, Answer)],
+)
+    requires { 5 < length ports.old }
+{
+    for &(access, wanted) in cases {
+        let answer = port_answered(memory, ports, log, 0b0110, access);
+        assert_eq!(rt; answer, wanted, "{access:?}");
+    }
+}
+
+// Checks the words that wait in ports 2 and 5, and that the others have none.
+fn check_waiting(rt: &impl Abort, ports: &[Port; 6]) {
+    assert_eq!(rt;
+        [ports[2].send_word(0), ports[2].send_word(1)],
+        [Some(7), Some(8)]
+    );
+    assert_eq!(rt;
+        [ports[5].send_word(0), ports[5].recv_word(0)],
+        [Some(50), Some(41)]
+    );
+    for other in [0, 1, 3, 4] {
+        assert_eq!(rt; (ports[other].room(), ports[other].fill()), (2, 0));
+    }
 }
 
 // The registers of a port, loaded and stored in order, and what is answered.
@@ -258,10 +301,7 @@ fn answers_port_registers(rt: HostRuntime) -> Result<(), Fail> {
         (store(0xffff_fff0, Width::Word, 1), ACCESS),
         (load(0xffff_fff8, Width::Word), ACCESS),
     ];
-    for (access, wanted) in cases {
-        let answer = port_answered(&mut memory, &mut ports, &mut log, 0b0110, access);
-        assert_eq!(rt; answer, wanted, "{access:?}");
-    }
+    check_answers(&rt, &mut memory, &mut ports, &mut log, &cases);
     let rows = [
         row(LATE, Kind::Send, 7),
         row(LATE, Kind::Send, 8),
@@ -269,18 +309,8 @@ fn answers_port_registers(rt: HostRuntime) -> Result<(), Fail> {
         row(LATE, Kind::Send, 50),
         row(LATE, Kind::Recv, 40),
     ];
-    assert_eq!(rt; log.rows(), rows.as_slice());
-    assert_eq!(rt;
-        [ports[2].send_word(0), ports[2].send_word(1)],
-        [Some(7), Some(8)]
-    );
-    assert_eq!(rt;
-        [ports[5].send_word(0), ports[5].recv_word(0)],
-        [Some(50), Some(41)]
-    );
-    for other in [0, 1, 3, 4] {
-        assert_eq!(rt; (ports[other].room(), ports[other].fill()), (2, 0));
-    }
+    check_rows(&rt, &log, &rows);
+    check_waiting(&rt, &ports);
     Ok(())
 }
 
@@ -335,6 +365,6 @@ fn a_port_register_is_a_word(rt: HostRuntime) -> Result<(), Fail> {
     for register in registers {
         check_narrow(&rt, &mut memory, &mut ports, &mut log, register);
     }
-    assert_eq!(rt; log.rows(), [].as_slice());
+    check_rows(&rt, &log, &[]);
     Ok(())
 }

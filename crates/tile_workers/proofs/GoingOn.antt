@@ -50,7 +50,8 @@ pass_on world schedule until old new each =
     zip_weaken (λ (x : Station) (y : Station). (moved : Bool) × IsPassed world schedule until moved x y) HasGoneOn
     (λ x y one. passed_on world schedule until one.0 x y one.1) old new each
 
-gone_then : (old mid new : List Station) → AllZip HasGoneOn old mid → AllZip HasGoneOn mid new → AllZip HasGoneOn old new
+gone_then : (old mid new : List Station) → AllZip HasGoneOn old mid → AllZip HasGoneOn mid new
+    → AllZip HasGoneOn old new
 gone_then old mid new one other = zip_then HasGoneOn HasGoneOn HasGoneOn then_on old mid new one other
 
 -- before the first pass

@@ -18,10 +18,6 @@ next_same xs ys i d inside same rest =
     ap (λ zs. get_or zs 0 d) both
 
 module _ (world : World) (schedule : Schedule) (until : ℕ) where
-  -- a pass over no station
-  pub no_pass : IsPass world schedule until false [] []
-  no_pass = record { each = tt; no_more = omega arith; fewer = λ e. cc; none = λ e. tt }
-
   -- a station that did a slot has fewer left, and one that didn't has as many
   went_fewer : (x y : Station) → IsPassed world schedule until true x y
       → until - y.tile.at < until - x.tile.at
@@ -91,7 +87,8 @@ module _ (world : World) (schedule : Schedule) (until : ℕ) where
         as_many = length-set new place y ∙ same;
         rest = drop-set-lt (place + 1) new place y (omega arith) ∙ drop_more_same new old place rest;
         pass = subst (λ xs. IsPass world schedule until moved xs (take (place + 1) (set new place y))) (sym one)
-            (subst (λ ys. IsPass world schedule until moved (take place old ++ get_or new place d ∷ []) ys) (sym other) pass);
+            (subst (λ ys. IsPass world schedule until moved (take place old ++ get_or new place d ∷ []) ys) (sym other)
+            pass);
       }
 
   pub more_went : (moved one : Bool) (place : ℕ) (old new : List Station) (d y : Station) → one ≡ true

@@ -54,4 +54,5 @@ pub some_of : (P : StationState → Type 0) (count : ℕ) (stations : List Stati
     → All P (map station_state (take count stations))
 some_of P count stations all =
     All-map P station_state (take count stations)
-    (All-take (λ (station : Station). P (station_state station)) count stations (all_unmap P station_state stations all))
+    (All-take (λ (station : Station). P (station_state station)) count stations
+    (all_unmap P station_state stations all))

@@ -85,21 +85,6 @@ module _ (setup : Setup) (sound : IsSound setup) where
       λ place d inside. run_underway world setup.loads schedule (station_state (get_or stations place d))
       sound_loads apart of_loads bounded (stands.run place d inside)
 
--- the feed was asked in a turn
-pub turn_begins : (setup next_setup : Setup) (old new : List Entry) (world : World) (until : ℕ)
-    (schedule next : Schedule) (stations : List Station) → IsSound setup → world ≡ setup.world
-    → Stands setup old world until schedule stations → next_setup ≡ setup → IsPrefix old new → IsLegal next_setup new
-    → IsScheduleOf next_setup new next
-    → Stands next_setup new world until next stations
-    × All (λ station. IsUnderway world next station.tile) stations
-turn_begins setup next_setup old new world until schedule next stations sound world_is stands same begins legal of =
-    let sound_next : IsSound next_setup = subst IsSound (sym same) sound in
-    let stands_next : Stands next_setup old world until schedule stations =
-    subst (λ s. Stands s old world until schedule stations) (sym same) stands in
-    let world_next : world ≡ next_setup.world = world_is ∙ ap (λ (s : Setup). s.world) (sym same) in
-    let now = asked next_setup sound_next old new world until schedule next stations stands_next begins legal of in
-    (now, underway next_setup sound_next new world until next stations world_next now of)
-
 -- the stations of a worker by all that it has seen
 pub by_all_seen : (first setup : Setup) (seen : List Entry) (world : World) (until : ℕ) (schedule : Schedule)
     (stations : List Station) → IsSound first → setup ≡ first → Stands setup seen world until schedule stations
@@ -144,19 +129,40 @@ after_pass setup history world until schedule old new stands passed =
     record {
       legal = stands.legal;
       behind = stands.behind;
-      run = zip_all R P P (λ x y one has. passed_run world setup.loads schedule until one.0 x y one.1 has) old new passed stands.run;
+      run = zip_all R P P (λ x y one has. passed_run world setup.loads schedule until one.0 x y one.1 has) old new
+          passed stands.run;
       within = zip_all R (IsWithin until schedule.horizon) (IsWithin until schedule.horizon)
           (λ x y one within. passed_within world schedule until one.0 x y one.1 within) old new passed stands.within;
     }
 
--- after the first pass of a turn
-pub first_pass : (setup next_setup : Setup) (old new : List Entry) (world : World) (until : ℕ)
-    (schedule next : Schedule) (stations passed : List Station) → IsSound setup → world ≡ setup.world
-    → Stands setup old world until schedule stations → next_setup ≡ setup → IsPrefix old new
-    → IsLegal next_setup new → IsScheduleOf next_setup new next → ArePassed world next until stations passed
-    → Stands next_setup new world until next passed
-first_pass setup next_setup old new world until schedule next stations passed sound world_is stands same begins legal
-    of each =
-    let begun = turn_begins setup next_setup old new world until schedule next stations sound world_is stands same
-    begins legal of in
-    after_pass next_setup new world until next stations passed begun.0 each
+-- The feed was asked: it is still one of the same setup, what it has seen has grown and is a legal history,
+-- and the schedule is that of this history.
+pub record IsRefreshed (setup next_setup : Setup) (old new : List Entry) (next : Schedule) : Type 0 where
+  pub same : next_setup ≡ setup
+  pub begins : IsPrefix old new
+  pub legal : IsLegal next_setup new
+  pub whole : IsScheduleOf next_setup new next
+
+-- The first pass of a turn.
+module _ (setup next_setup : Setup) (old new : List Entry) (world : World) (until : ℕ) (schedule next : Schedule)
+    (stations : List Station) (sound : IsSound setup) (world_is : world ≡ setup.world)
+    (stands : Stands setup old world until schedule stations) (refreshed : IsRefreshed setup next_setup old new next)
+  where
+    -- before it each tile can go on
+    pub turn_begins : Stands next_setup new world until next stations
+        × All (λ station. IsUnderway world next station.tile) stations
+    turn_begins =
+        let same = refreshed.same in
+        let whole = refreshed.whole in
+        let sound_next : IsSound next_setup = subst IsSound (sym same) sound in
+        let stands_next : Stands next_setup old world until schedule stations =
+        subst (λ s. Stands s old world until schedule stations) (sym same) stands in
+        let world_next : world ≡ next_setup.world = world_is ∙ ap (λ (s : Setup). s.world) (sym same) in
+        let now = asked next_setup sound_next old new world until schedule next stations stands_next refreshed.begins
+        refreshed.legal whole in
+        (now, underway next_setup sound_next new world until next stations world_next now whole)
+
+    -- after it the stations stand by the new schedule
+    pub first_pass : (passed : List Station) → ArePassed world next until stations passed
+        → Stands next_setup new world until next passed
+    first_pass passed each = after_pass next_setup new world until next stations passed turn_begins.0 each

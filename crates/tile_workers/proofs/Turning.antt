@@ -1,11 +1,10 @@
 -- A worker from turn to turn, and what it ends with.
-use Rattle.std.proofs.Common.{◌≡◌, ℕ, ◌+◌, ◌<◌, ◌≤◌, ◌≢◌, ◌⊎◌, Bool, true, false, List, [], ◌∷◌, map, get_or, ◌||◌, nat_lt, Some, true≢false, refl, sym, ap, subst, ◌∙◌, inl, inr, arith}
+use Rattle.std.proofs.Common.{◌≡◌, ℕ, ◌+◌, ◌<◌, ◌≤◌, Bool, true, false, List, [], ◌∷◌, map, ◌||◌, nat_lt, Some, refl, ap, subst, ◌∙◌, inl, inr, arith}
 use mathlib.Core.List.{IsPrefix}
 use Rattle.std.specs.List.{AllZip}
-use Rattle.std.proofs.Math.Nat.{eq-or-lt_of_le}
-use Rattle.std.proofs.lemmas.Bool.{ltb-true, lt-ltb, le-ltb}
+use Rattle.std.proofs.lemmas.Bool.{ltb-true, le-ltb}
 use Rattle.std.proofs.lemmas.List.{append-nil}
-use Rattle.std.proofs.lemmas.List.Folds.{Any-from_list_any, list_any_at, list_any_none}
+use Rattle.std.proofs.lemmas.List.Folds.{Any-from_list_any, list_any_none}
 use Rattle.std.proofs.lemmas.Option.{slice_get-get_or}
 use Rattle.bundle_model.specs.declared.world.World.{World}
 use Rattle.bundle_model.specs.declared.world.Schedule.{Schedule}
@@ -14,7 +13,7 @@ use Rattle.vep_manager.specs.declared.reply.Entry.{Entry}
 use Rattle.tile_core.specs.declared.station.Station.{Station}
 use Rattle.tile_core.specs.Station.{station_state, ends_of}
 use Rattle.tile_workers.specs.declared.working.TheConstants.{MOST_IDLE_TURNS}
-use Rattle.tile_workers.specs.Work.{RoseBy, Rises, IsScheduleOf, AreWithin, AreDone, IsIdle}
+use Rattle.tile_workers.specs.Work.{RoseBy, Rises, IsScheduleOf, AreDone, IsIdle}
 use Rattle.tile_workers.specs.inner.Passing.{is_below, IsPassed, HasGoneOn, IsTurnOf, Stands}
 use Rattle.tile_workers.proofs.Zips.{zip_same, zip_then, zip_map, zip_at}
 use Rattle.tile_workers.proofs.Standing.{prefix_then}
@@ -116,21 +115,7 @@ ends_stay schedule until idle old new each =
     zip_map (HasWaited schedule until idle) (λ (station : Station). ends_of (station_state station))
     (λ x y has. has.ends) old new each
 
--- where no tile is below the slot and none above it, all are at it
-at_by : (at until : ℕ) → at ≤ until → nat_lt at until ≢ true → (at ≡ until) ⊎ (at < until) → at ≡ until
-at_by at until most not (inl same) = same
-at_by at until most not (inr low) = absurd (not (lt-ltb at until low))
-
-pub none_below : (until horizon : ℕ) (stations : List Station) → AreWithin until horizon stations
-    → is_below until stations ≡ false → AreDone until stations
-none_below until horizon stations within none place d inside =
-    let p = λ (station : Station). nat_lt station.tile.at until in
-    let at = (get_or stations place d).tile.at in
-    let most = (within place d inside).0 in
-    at_by at until most (λ below. true≢false (sym (list_any_at p stations place d inside below) ∙ none))
-    (eq-or-lt_of_le most)
-
--- where all are at it none is below
+-- where all tiles are at the slot none is below it
 pub done_none : (until : ℕ) (stations : List Station) → AreDone until stations → is_below until stations ≡ false
 done_none until stations done =
     list_any_none (λ station. nat_lt station.tile.at until) stations
@@ -153,6 +138,7 @@ gives_up world until idle setup first seen schedule old new turns_first turns wo
       below = ltb-true _ _ some.4;
       turns = subst (λ n. RoseBy n turns_first turns) all working.turns;
       each = λ place before after was is low.
-          let waits = (zip_at (HasWaited schedule until MOST_IDLE_TURNS) old new each place before after was is).waits low in
+          let waited = zip_at (HasWaited schedule until MOST_IDLE_TURNS) old new each place before after was is in
+          let waits = waited.waits low in
           record { tries = waits.tries; still = waits.still; held_up = waits.held_up (omega arith) };
     }

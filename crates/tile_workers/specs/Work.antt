@@ -15,6 +15,7 @@ use Rattle.tile_workers.specs.declared.working.TheConstants.{MOST_IDLE_TURNS}
 abbrev pub RoseBy : ℕ → ℕ → ℕ → Type 0
 RoseBy least old new = (old + least ≤ new) ⊎ ((old ≤ new) × (2 ^ 64 - 1 ≤ new))
 
+-- such a count rose by 1 at least
 abbrev pub Rises : ℕ → ℕ → Type 0
 Rises old new = RoseBy 1 old new
 

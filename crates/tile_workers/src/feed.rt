@@ -17,9 +17,10 @@ pub trait Feed {
     /// The setup of the run, which never changes.
     ghost setup: { Self → Setup };
 
-    /// What else never changes of the feed, for those who made it.
+    /// The type of what else never changes of the feed.
     ghost Kept: { Type 0 };
 
+    /// What else never changes of the feed, so that those who made it know it again.
     ghost kept: { Self → Kept };
 
     /// The entries of the history that were seen.

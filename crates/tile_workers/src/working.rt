@@ -38,7 +38,8 @@ pub fn work<F: Feed, G: Gate>(
     requires world { world.now ≡ (F.setup feed.old).world }
     requires room { length (F.setup feed.old).loads ≤ vec_capacity schedule.old.grants }
     requires schedule { IsBehind (F.setup feed.old) (F.seen feed.old) schedule.old }
-    requires run { All (HasRun world.now (F.setup feed.old).loads schedule.old.grants.items) (map station_state group.old.stations.items) }
+    requires run { All (HasRun world.now (F.setup feed.old).loads schedule.old.grants.items)
+        (map station_state group.old.stations.items) }
     requires within { AreWithin until schedule.old.horizon group.old.stations.items }
     ensures setup { F.setup feed.new ≡ F.setup feed.old }
     ensures kept { F.kept feed.new ≡ F.kept feed.old }

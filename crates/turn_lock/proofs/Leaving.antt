@@ -1,5 +1,5 @@
 -- Reading the count, counting an entry, and passing the turn keep the rule.
-use Rattle.std.proofs.Common.{◌≡◌, ◌≢◌, ℕ, zero, suc, ◌+◌, ◌*◌, ◌%◌, ◌/◌, ◌<◌, ◌≤◌, ◌^◌, ◌⊎◌, List, [], ◌∷◌, ◌++◌, length, set, slice_index, Some, None, Option, true, false, refl, sym, ◌∙◌, subst, ap, arith, inl, inr, ⊎_elim, length-set, get_or, get_or-set_same, get_or-set_other, length-append, append_assoc, append-nil}
+use Rattle.std.proofs.Common.{◌≡◌, ◌≢◌, ℕ, zero, suc, ◌+◌, ◌%◌, ◌<◌, ◌^◌, ◌⊎◌, List, [], ◌∷◌, ◌++◌, length, set, slice_index, Some, None, Option, true, false, refl, sym, ◌∙◌, subst, ap, arith, inl, inr, ⊎_elim, length-set, get_or-set_same, get_or-set_other, length-append, append_assoc, append-nil}
 use Rattle.std.proofs.Math.Nat.{mod-add-mod, mod-eq_of_lt}
 use mathlib.Core.Option.{some, none, some-ne-none, some-injective}
 use mathlib.Core.Logic.{dite}

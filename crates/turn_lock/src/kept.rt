@@ -10,8 +10,10 @@ pub trait Kept {
     /// One entry of the history. No value of it is made.
     type Entry;
 
+    /// What of a value never changes.
     ghost base: { Self → Self.Base };
 
+    /// The entries of a value's history, the oldest first.
     ghost entries: { Self → List Self.Entry };
 
     /// Answers how many entries the history has.

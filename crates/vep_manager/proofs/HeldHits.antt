@@ -9,7 +9,7 @@ use Rattle.bundle_model.specs.declared.resource.Resource.{Resource}
 use Rattle.bundle_model.specs.declared.world.Grant.{Grant}
 use Rattle.bundle_model.specs.Resources.{meets_of}
 use Rattle.vep_manager.specs.declared.owners.held.Held.{Held}
-use Rattle.vep_manager.specs.inner.Held.{IsInOrder, IsBegun, Reaches, IsLeastHit, lasts_at, hits}
+use Rattle.vep_manager.specs.inner.Held.{IsInOrder, Reaches, IsLeastHit, lasts_at, hits}
 use Rattle.vep_manager.proofs.Ranges.{meet_range}
 
 -- an entry that is in the way meets the resource
@@ -18,19 +18,7 @@ hit_meets : (grants : List Grant) (start : ℕ) (resource : Resource) (held : He
 hit_meets grants start resource held hit =
     (and_parts (lasts_at grants start held.grant) (meets_of held.resource resource) hit).1
 
--- no entry is in the way that begins behind the resource
-pub hits_begun : (grants : List Grant) (start : ℕ) (resource : Resource) (row : List Held) (at : ℕ) → IsBegun row resource at
-    → IsLeastHit (hits grants start resource) row at None
-hits_begun grants start resource row at begun = record {
-  below = λ k d from inside hit.
-      let later = begun.later k d from inside in
-      let meets = meet_range (get_or row k d).resource resource
-      (hit_meets grants start resource (get_or row k d) hit) in
-      absurd (omega (arith, later, meets));
-  found = tt;
-}
-
--- nor one that doesn't reach it
+-- no entry is in the way that doesn't reach the resource
 pub hits_reached : (grants : List Grant) (start : ℕ) (resource : Resource) (row : List Held) (at : ℕ) (least : Option ℕ)
     → IsInOrder row → at ≤ length row → (Reaches at row resource → ⊥)
     → IsLeastHit (hits grants start resource) row at least → IsLeastHit (hits grants start resource) row 0 least

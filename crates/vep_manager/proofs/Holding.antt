@@ -24,16 +24,6 @@ use Rattle.vep_manager.specs.inner.Owned.{count_in, loads_in, in_row, Fits, Hold
 use Rattle.vep_manager.proofs.Counts.{one_if, one_true, count_all, and_one}
 use Rattle.vep_manager.proofs.ClaimCounts.{every}
 
--- none yet
-pub holds_none : (tiles grant : ℕ) (shelf : Shelf) → ((n : ℕ) → n < length shelf.rows → IsInOrder (get_or shelf.rows n []))
-    → HoldsMore tiles [] grant shelf shelf
-holds_none tiles grant shelf order = record {
-  rooms = refl;
-  count = refl;
-  in_order = order;
-  holds = λ n below test. omega arith;
-}
-
 -- a resource counts in its own row
 here_counts : (tiles rows n : ℕ) (test : Resource → ℕ → Bool) (resource : Resource) (grant : ℕ)
     → row_of tiles rows resource ≡ n → one_if (in_row tiles rows n test resource grant) ≡ one_if (test resource grant)
@@ -101,35 +91,47 @@ module _ (tiles : ℕ) (list : List Resource) (i grant : ℕ) (old now : Shelf) 
         ];
   }
 
+-- The counts of the rows after one list more: each rose by as many resources of the list as lie in its row.
+pub record HaveRisen (tiles : ℕ) (list : List Resource) (old new : List ℕ) : Type 0 where
+  pub as_many : length new ≡ length old
+  pub rose : (n : ℕ) → n < length old → get_or new n 0 ≡ get_or old n 0 + count_in tiles (length old) n list
+
+-- For each row, how many of the resources that the bundles of the first `i` loads hold lie in it. The counts
+-- are low, so that one list more still fits in 32 bits.
+pub record AreCounted (world : World) (loads : List LoadName) (i : ℕ) (counts : List ℕ) : Type 0 where
+  pub low : All (λ count. count ≤ 4096 * i) counts
+  pub exact : (n : ℕ) → n < length counts → get_or counts n 0 ≡ loads_in world (length counts) n (take i loads)
+
+-- A list is what the bundle of a load holds, and is short.
+pub record IsClaimedBy (world : World) (load : LoadName) (list : List Resource) : Type 0 where
+  pub claimed : list ≡ claimed_at world load.bundle
+  pub few : length list ≤ 4096
+
 -- the counts of one load more
 pub rooms_more : (world : World) (loads : List LoadName) (i : ℕ) (load : LoadName) (old new : List ℕ) (list : List Resource)
-    → i < length loads → get_or loads i load ≡ load → list ≡ claimed_at world load.bundle → length list ≤ 4096
-    → length new ≡ length old
-    → ((n : ℕ) → n < length old
-    → get_or new n 0 ≡ get_or old n 0 + count_in world.platform.tiles (length old) n list)
-    → All (λ count. count ≤ 4096 * i) old
-    → ((n : ℕ) → n < length old → get_or old n 0 ≡ loads_in world (length old) n (take i loads))
-    → All (λ count. count ≤ 4096 * (i + 1)) new
-    × ((n : ℕ) → n < length new → get_or new n 0 ≡ loads_in world (length new) n (take (i + 1) loads))
-rooms_more world loads i load old new list inside is list_is few len counted low so_far =
+    → i < length loads → get_or loads i load ≡ load → IsClaimedBy world load list
+    → HaveRisen world.platform.tiles list old new → AreCounted world loads i old → AreCounted world loads (i + 1) new
+rooms_more world loads i load old new list inside is of risen so_far =
     let tiles : ℕ = world.platform.tiles in
-    let rows : ℕ = length old in (
-      λ k d below.
-          let here = counted k (omega (arith, below, len)) in
+    let rows : ℕ = length old in
+    let len = risen.as_many in
+    record {
+      low = λ k d below.
+          let here = risen.rose k (omega (arith, below, len)) in
           let most = count_by-le-length (λ r. row_of tiles rows r == k) list in
-          let before = low k 0 (omega (arith, below, len)) in
+          let before = so_far.low k 0 (omega (arith, below, len)) in
           let same = get_or_default new k d 0 below in
-          omega (arith, here, most, before, same, few),
-      λ n below.
-          let here = counted n (omega (arith, below, len)) in
-          let before = so_far n (omega (arith, below, len)) in
+          omega (arith, here, most, before, same, of.few);
+      exact = λ n below.
+          let here = risen.rose n (omega (arith, below, len)) in
+          let before = so_far.exact n (omega (arith, below, len)) in
           let weight : LoadName → ℕ = λ l. count_in tiles rows n (claimed_at world l.bundle) in
           let more = sum_by_more weight loads i load inside in
           let last = ap weight is in
-          let list_count = ap (count_in tiles rows n) list_is in
+          let list_count = ap (count_in tiles rows n) of.claimed in
           let shape = ap (λ k. loads_in world k n (take (i + 1) loads)) len in
-          omega (arith, here, before, more, last, list_count, shape),
-    )
+          omega (arith, here, before, more, last, list_count, shape);
+    }
 
 claimed_few_by : (platform : Platform) (o : Option Bundle)
     → ((bundle : Bundle) → o ≡ Some bundle → length (resources_of platform bundle) ≤ 4096)

@@ -104,14 +104,6 @@ module _ (setup : Setup) (grants : List Grant) (kept : Kept) (grant : Grant) (in
         grants_fit = index.grants_fit;
       }
 
--- the grants are no more than the loads
-pub few_indexed : (setup : Setup) (grants : List Grant) (kept : Kept) → IsIndex setup grants kept
-    → length grants ≤ length setup.loads
-few_indexed setup grants kept index =
-    let few = fewer (map load_of grants) setup.loads
-    (λ i j d before below same. index.labelled i j d before below (ap (λ (l : LoadName). l.label) same)) index.of_loads in
-    omega (arith, few, length-map grants load_of)
-
 -- a grant that changes keeps its label and its bundle
 pub index_changed : (setup : Setup) (grants : List Grant) (kept : Kept) (place : ℕ) (old new : Grant)
     → IsIndex setup grants kept → place < length grants → get_or grants place old ≡ old → load_of new ≡ load_of old

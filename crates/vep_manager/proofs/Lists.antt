@@ -6,11 +6,9 @@ use Rattle.std.specs.Option.{option_map, option_and_then}
 use Rattle.std.proofs.lemmas.Bool.{false≢true, ltb-false, cond-true, cond-false}
 use Rattle.std.proofs.lemmas.List.Quantifiers.{position-Some}
 use Rattle.bundle_model.proofs.Laws.{none_found, no_place}
-use Rattle.std.proofs.Math.ListN.{set}
 use Rattle.std.proofs.lemmas.List.Sums.{prefix_len-le-length, sum_by-append, sum_by-cons}
 use Rattle.vep_manager.proofs.Counts.{count_all}
-use Rattle.std.proofs.lemmas.List.Edits.{map_over_more}
-use Rattle.std.proofs.lemmas.List.{take-append-drop, get_or_default}
+use Rattle.std.proofs.lemmas.List.{take-append-drop}
 use Rattle.std.proofs.lemmas.List.Elements.{All-nil, All-cons, All-head, All-tail, All-map, All-contains, All-append, Contains-append_right, Contains-append_left, Contains-append_cases}
 
 -- what gave a value
@@ -158,14 +156,6 @@ split_last {X} (z ∷ zs) x (b ∷ bs) y after e =
       | inl (front, last) ↦ inl (cc, last)
       | inr (more, is) ↦ inr (more, cc)
     ]
-
--- the step of a loop that changes each item of a list in turn, where what is read is a default past the end
-pub changed_more : {X : Type 0} (f : X → X) (xs ys : List X) (i : ℕ) (y d : X) → i < length xs → length ys ≡ length xs
-    → ys ≡ map f (take i xs) ++ drop i xs → y ≡ f (get_or ys i d)
-    → set ys i y ≡ map f (take (i + 1) xs) ++ drop (i + 1) xs
-changed_more f xs ys i y d below same so_far is =
-    let low : i < length ys = omega arith in
-    rw is (map_over_more f xs ys i (get_or ys i d) below so_far (get_or_default ys i d (get_or ys i d) low))
 
 place_cases : {X : Type 0} (p : X → Bool) (xs : List X) (here : Bool)
     → nat_lt (position_or_len p xs) (length xs) ≡ here

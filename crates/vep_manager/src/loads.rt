@@ -69,8 +69,10 @@ fn add_session(
     Ok(())
 }
 
-/// Lists the load commands of scripts by name: each once, in the order of the sessions, which are
-/// numbered from 1. There are at most 16 scripts, with at most 256 commands each.
+/// Lists the load commands of scripts, each once: by its session and its number among the session's load
+/// commands, both counted from 1, with the place in the catalog of the first bundle file of its name, or the
+/// catalog's length where there is none. They come in the order of the sessions, and within a session in that
+/// of its script. There are at most 16 scripts, with at most 256 commands each.
 #[tactic(auto, unfolding(crate::specs::Loads::loads_of))]
 pub fn named_loads(
     alloc: Global,

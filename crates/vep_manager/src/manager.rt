@@ -35,8 +35,11 @@ impl<'s> Model for Manager<'s> {
 
     ghost Value = { ManagerState };
 
+    /// The setup and the history.
     ghost view = { λ m. record { setup = m.setup.now; history = m.history.items } };
 
+    /// The history is legal, the grants and the horizon are those of it, and there is room for the entries
+    /// that are still to come.
     ghost invariant = { λ m. IsKept (record { setup = m.setup.now; history = m.history.items })
         (record {
           grants = m.owners.grants;
@@ -244,8 +247,8 @@ impl<'s> Manager<'s> {
         next
     }
 
-    /// Makes a schedule, which has room for every load and keeps it, that of the whole history. Takes no
-    /// memory.
+    /// Overwrites a schedule with that of the whole history: its grants, and the horizon. The schedule has
+    /// room for a grant of each load, and keeps its room. Takes no memory.
     pub fn copy_since(&self, into: &mut Schedule)
         requires { length self.now.setup.loads ≤ vec_capacity into.old.grants }
         ensures grants { into.new.grants.items ≡ grants_of self.now.setup self.now.history }

@@ -1,7 +1,8 @@
 //! An index of owners: which of the grants hold a resource.
 //!
 //! A resource is looked up in one row, where only those grants stand that hold its place: of spans,
-//! those of its tile, in order of first bytes. All memory is taken when the index is made.
+//! those of its tile, in order of first bytes. Row 0, that of the spans of tile 0, also serves resources
+//! outside the platform that have no row of their own. All memory is taken when the index is made.
 
 ghost use Rattle.std.specs.Prelude.{◌≡◌, ℕ, ◌<◌, ◌++◌, [], ◌∷◌, length, position, IfOk, IfSome, slice_index_or};
 ghost use Rattle.bundle_model.specs.Grants.{conflicts};
@@ -48,8 +49,10 @@ impl<'s> Model for OwnerIndex<'s> {
 
     ghost Value = { Owners };
 
+    /// The setup that it was made for, and the grants that were added.
     ghost view = { λ i. record { setup = i.setup.now; grants = i.grants.items } };
 
+    /// The rows stand for the grants, and have room for those of every load.
     ghost invariant = { λ i. IsIndex i.setup.now i.grants.items
         (record { lists = i.lists.items; tiles = i.tiles; shelf = i.rows; room = vec_capacity i.grants }) };
 }
@@ -104,7 +107,7 @@ impl<'s> OwnerIndex<'s> {
         self.grants.push_reserved(*grant);
     }
 
-    /// Gives the grant at a place, counted from 0 in the order of the history, this end.
+    /// Gives the grant at a place, counted from 0 in the order of the history, this end. Takes no memory.
     pub fn set_end(&mut self, place: u16, end: u64)
         requires { place < length self.old.grants }
         ensures { self.new ≡ record self.old { grants = with_end self.old.grants place end } }
@@ -114,7 +117,8 @@ impl<'s> OwnerIndex<'s> {
     }
 
     /// Answers the place of the first grant, in the order of the history, that conflicts with a resource
-    /// which is asked for from slot `start` on. Any numbers may be asked for.
+    /// which is asked for from slot `start` on, if there is one. The resource may lie outside the platform.
+    /// Takes no memory.
     pub fn first(&self, resource: &Resource, start: u64) -> Option<u16>
         ensures first { result ≡ position (conflicts self.now.setup.world start resource.now) self.now.grants }
         ensures within { IfSome result (λ place. place < length self.now.grants) }

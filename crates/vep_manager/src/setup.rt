@@ -20,6 +20,8 @@ pub struct Setup {
     pub scripts: Items<Script>,
     /// Each load command once, in the order of the sessions, with the catalog's entry of its name.
     pub loads: Items<LoadName>,
+    /// The loads are those of the scripts.
     pub ghost loads_named: { loads ≡ loads_of world.catalog scripts },
+    /// Each load names an entry that the catalog has.
     pub ghost loads_known: { IsTrue (list_all (λ load. nat_lt load.bundle (length world.catalog)) loads) },
 }

@@ -28,14 +28,14 @@ unfolding bundles_from
 bundles_more state session load d front files some before same =
     let f : ℕ → List ℕ × Option Members = λ k. (bundle_name session k, Some (bundle_document session (drawn state 1 k))) in
     let file : (bundle_name session load, Some (bundle_document session d)) ≡ f load = ap (λ e. (bundle_name session load, Some (bundle_document session e))) same in
-    listed_more f front files _ 1 (load - 1) load (load + 1 - 1) before file (omega arith) (omega arith)
+    listed_more f front files _ 1 load (omega (arith, some)) before file
 
 pub lines_more : (state session load : ℕ) (d : Drawn) (lines : List ℕ) → 0 < load → lines ≡ lines_from state session (load - 1) → d ≡ drawn state 1 load
     → lines ++ load_lines session load d ≡ lines_from state session (load + 1 - 1)
 unfolding lines_from
 lines_more state session load d lines some before same =
     ap (λ ls. ls ++ load_lines session load d) before ∙ ap (λ e. flat_map (λ k. load_lines session k (drawn state 1 k)) (range_with_len 1 (load - 1)) ++ load_lines session load e) same
-    ∙ joined_more (λ k. load_lines session k (drawn state 1 k)) 1 (load - 1) load (load + 1 - 1) (omega arith) (omega arith)
+    ∙ joined_more (λ k. load_lines session k (drawn state 1 k)) 1 load (omega (arith, some))
 
 -- a session's script
 pub script_is : (number session state : ℕ) → state ≡ state_after number (42 * (session - 1)) → lines_from state session 6 ≡ script_text number session
@@ -60,13 +60,13 @@ bundles_on number session state files some left before =
     let f : ℕ → List (List ℕ × Option Members) = λ k. map (λ load. (bundle_name k load, Some (bundle_document k (drawn number k load)))) (range_with_len 1 6) in
     let these : bundles_from state session 6 ≡ f session = ap (λ g. map (λ load. (bundle_name session load, Some (bundle_document session (g load)))) (range_with_len 1 6)) (fun_ext (λ load. drawn_session number session state load left)) in
     ap (λ fs. fs ++ bundles_from state session 6) before ∙ ap (λ fs. flat_map f (range_with_len 1 (session - 1)) ++ fs) these
-    ∙ joined_more f 1 (session - 1) session (session + 1 - 1) (omega arith) (omega arith)
+    ∙ joined_more f 1 session (omega (arith, some))
 
 pub scripts_on : (number session : ℕ) (file : NamedText) (files : List NamedText) → 0 < session → files ≡ scripts_until number (session - 1) → file ≡ record { name = script_name session; text = script_text number session }
     → files ++ file ∷ [] ≡ scripts_until number (session + 1 - 1)
 unfolding scripts_until
 scripts_on number session file files some before same =
-    listed_more (λ k. record { name = script_name k; text = script_text number k }) [] files file 1 (session - 1) session (session + 1 - 1) before same (omega arith) (omega arith)
+    listed_more (λ k. record { name = script_name k; text = script_text number k }) [] files file 1 session (omega (arith, some)) before same
 
 -- all sessions
 pub bundles_all : (number : ℕ) → bundles_until number 4 ≡ bundles_of number

@@ -197,7 +197,7 @@ pub fn ends_before(one: &Grant, other: &Grant) -> bool
     }
 }
 
-// Checks that the first grant ends before the second begins, or that they hold nothing together.
+/// Checks that the first grant ends before the second begins, or that they hold nothing together.
 pub fn check_apart<A: Abort>(
     rt: &A,
     alloc: Global,
@@ -222,7 +222,8 @@ pub fn check_apart<A: Abort>(
     Ok(())
 }
 
-// A grant.
+/// A grant to the load of a label, of the bundle at this place of the catalog, from the slot `start` on. It
+/// ends in the slot `end`, or never.
 pub fn grant(label: Label, bundle: u16, start: u64, end: Option<u64>) -> Grant
     ensures { result ≡ record { label = label; bundle = bundle; start = start; end = end } }
 {

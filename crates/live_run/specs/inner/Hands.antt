@@ -2,10 +2,11 @@
 use Rattle.std.specs.Prelude.{◌≡◌, ℕ, zero, suc, ◌+◌, ◌-◌, ◌%◌, List, [], ◌∷◌, ◌++◌, length, take, drop, slice_index_or, slice_set}
 
 module _ {X : Type 0} where
-  -- the last item of a hand, if it has one, and the items before it
+  -- the last item of a hand, if it has one
   abbrev pub last_of : List X → List X
   last_of items = drop (length items - 1) items
 
+  -- the items before it
   abbrev pub but_last : List X → List X
   but_last items = take (length items - 1) items
 

@@ -36,6 +36,7 @@ pub record CarriesAt (outs outs_new : List (Wire LinkOut)) (out : ℕ) (ins ins_
   pub carries : (s : Wire LinkOut) (r : Wire LinkIn) → slice_get outs out ≡ Some s → slice_get ins input ≡ Some r
       → Carries s sender r receiver
 
+-- a flit can be carried between the ends at the places of two stations, which have so many ends
 pub record CanCarryStations (in_line : Bool) (hop : Hop) (sender receiver : Station) : Type 0 where
   pub out_within : hop.out < length sender.outs.items
   pub input_within : hop.input < length receiver.ins.items
@@ -51,6 +52,7 @@ pub record CarriesStations (hop : Hop) (sender sender_new receiver receiver_new 
   pub receiver_tile : receiver_new.tile ≡ receiver.tile
   pub receiver_outs : receiver_new.outs ≡ receiver.outs
 
+-- a flit can be carried over the link between two of these stations
 pub record CanCarryLink (in_line : Bool) (hop : Hop) (stations : List Station) : Type 0 where
   pub from : hop.from < length stations
   pub to : hop.to < length stations

@@ -11,17 +11,19 @@ use Rattle.tile_core.specs.Wires.{Seen}
 use Rattle.tile_core.specs.Station.{StationState, Ends, ends_of}
 use Rattle.serial_run.specs.declared.hops.Hop.{Hop}
 
--- an end is of the link of a number
+-- an end into which flits are set is of the link of a number
 abbrev pub is_out_of : ℕ → Wire LinkOut → Bool
 is_out_of number wire = wire.link == number
 
+-- the same of an end from which flits are taken
 abbrev pub is_in_of : ℕ → Wire LinkIn → Bool
 is_in_of number wire = wire.link == number
 
--- the end at a place of those of the links that leave a tile, and of those that enter it
+-- the end at a place of those of the links that leave a tile
 abbrev pub out_at : List Station → ℕ → ℕ → Option (Wire LinkOut)
 out_at stations tile place = option_and_then (λ station. slice_get station.outs.items place) (slice_get stations tile)
 
+-- the end at a place of those of the links that enter a tile
 abbrev pub in_at : List Station → ℕ → ℕ → Option (Wire LinkIn)
 in_at stations tile place = option_and_then (λ station. slice_get station.ins.items place) (slice_get stations tile)
 
@@ -29,10 +31,11 @@ in_at stations tile place = option_and_then (λ station. slice_get station.ins.i
 abbrev pub all_ends : List StationState → List Ends
 all_ends stations = map ends_of stations
 
--- the same ends, without their flits
+-- the same end without its flits, at a place of those into which flits are set
 abbrev pub out_end : List Ends → ℕ → ℕ → Option Seen
 out_end stations tile place = option_and_then (λ ends. slice_get ends.outs place) (slice_get stations tile)
 
+-- the same at a place of those from which flits are taken
 abbrev pub in_end : List Ends → ℕ → ℕ → Option Seen
 in_end stations tile place = option_and_then (λ ends. slice_get ends.ins place) (slice_get stations tile)
 
@@ -69,6 +72,7 @@ AtEnds Holds stations hop =
     (sender : Wire LinkOut) (receiver : Wire LinkIn) → out_at stations hop.from hop.out ≡ Some sender
     → in_at stations hop.to hop.input ≡ Some receiver → Holds sender receiver
 
+-- it holds of the two ends of each link
 abbrev pub AllAtEnds : (Wire LinkOut → Wire LinkIn → Type 0) → List Station → List Hop → Type 0
 AllAtEnds Holds stations hops = (number : ℕ) (hop : Hop) → slice_get hops number ≡ Some hop → AtEnds Holds stations hop
 

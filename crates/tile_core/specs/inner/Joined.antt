@@ -17,6 +17,7 @@ pub record MadeLink : Type 0 where
 abbrev pub fresh_end : ℕ → ℕ → LinkName → Seen
 fresh_end number place ring = record { link = number; place = place; ring = ring; flits = [] }
 
+-- one link more before these ends, with its fresh end, if it has a place at the tile
 abbrev pub ends_from : ℕ → LinkName → Option ℕ → List Seen → List Seen
 ends_from number ring None ends = ends
 ends_from number ring (Some place) ends = fresh_end number place ring ∷ ends

@@ -226,7 +226,8 @@ pub fn fed<A: Abort>(
 ) -> Result<FedTile, Fail>
     requires sound { IsSoundCatalog world.now }
     requires two { length world.now.catalog ≡ 2 }
-    requires labels { (first.label ≡ record { session = 1; load = 1 }) × (second.label ≡ record { session = 1; load = 2 }) }
+    requires labels { (first.label ≡ record { session = 1; load = 1 })
+        × (second.label ≡ record { session = 1; load = 2 }) }
     requires bundles { (first.bundle ≡ 0) × (second.bundle ≡ 1) }
     requires begins { IfSome first.end (λ end. first.start ≤ end) }
     requires follows { IfSome second.end (λ end. second.start ≤ end) }
@@ -253,7 +254,8 @@ pub fn followed<A: Abort>(
 ) -> Result<Tile, Fail>
     requires sound { IsSoundCatalog world.now }
     requires two { length world.now.catalog ≡ 2 }
-    requires labels { (first.label ≡ record { session = 1; load = 1 }) × (second.label ≡ record { session = 1; load = 2 }) }
+    requires labels { (first.label ≡ record { session = 1; load = 1 })
+        × (second.label ≡ record { session = 1; load = 2 }) }
     requires bundles { (first.bundle ≡ 0) × (second.bundle ≡ 1) }
     requires begins { IfSome first.end (λ end. first.start ≤ end) }
     requires follows { IfSome second.end (λ end. second.start ≤ end) }

@@ -1,11 +1,11 @@
 //! A tile with a port, joined to another: what it puts on its output, and what it has from its input. Cycles
 //! and slots were counted by hand.
 
-ghost use Rattle.std.specs.Prelude.{◌≡◌, length, IfOk};
+ghost use Rattle.std.specs.Prelude.{◌≡◌, ◌≤◌, length, IfOk};
 ghost use Rattle.bundle_model.specs.World.{IsSoundCatalog};
 ghost use Rattle.bundle_model.specs.WellFormed.{IsWellFormed};
 
-use super::fixture::{FIRST, SECOND, fed, granted, world_with};
+use super::fixture::{FIRST, FedTile, SECOND, fed, granted, world_with};
 use crate::tile::Tile;
 use bundle_model::{Bundle, RawBundle, RawChannel, RawPair, RawPart, World, check};
 use platform_model::{Platform, RawLink, RawPlatform};
@@ -121,34 +121,54 @@ pub(super) fn check_port<A: Abort>(
     );
 }
 
+// Follows the tile with words on input 1 from slot 4 on, where the first grant ends as `end` says. Checks its
+// port 1 after so many slots, and what it sent by its output 0.
+fn check_after<A: Abort>(
+    rt: &A,
+    alloc: Global,
+    world: &World,
+    end: Option<u64>,
+    slots: u64,
+    held: (Option<u32>, Option<u32>, u8, u8),
+    sent: Option<(u64, Option<u32>)>,
+) -> Result<(), Fail>
+    requires sound { IsSoundCatalog world.now }
+    requires two { length world.now.catalog ≡ 2 }
+    requires bounded { slots ≤ 1000 }
+{
+    let first = granted(FIRST, 0, end);
+    let second = granted(SECOND, 1, None);
+    let done = fed(rt, alloc, world, first, second, slots, 4)?;
+    check_port(rt, world, &done.tile, 1, held);
+    check_port(rt, world, &done.tile, 0, (None, None, 0, 0));
+    check_sent(rt, &done, sent);
+    Ok(())
+}
+
+// Checks the slot and the word that a tile sent by its output 0, with no credits, and that each was counted.
+fn check_sent<A: Abort>(rt: &A, done: &FedTile, sent: Option<(u64, Option<u32>)>) {
+    let was = done
+        .sent
+        .map(|(slot, flit)| (slot, flit.word, flit.credits));
+    assert_eq!(rt; was, sent.map(|(slot, word)| (slot, word, 0)));
+    let carried = u64::from(sent.is_some());
+    assert_eq!(rt; (done.tile.carried(0), done.tile.carried(1)), (carried, 0));
+}
+
 #[test]
 fn sends_and_receives_in_its_slots(rt: HostRuntime) -> Result<(), Fail> {
     let alloc = rt.alloc();
     let world = joined(alloc)?;
-    let first = granted(FIRST, 0, None);
-    let second = granted(SECOND, 1, None);
     // The word is put in cycle 76, which is in slot 9, and waits for slot 14. From slot 4 on input 1 brings
     // words, of which that of slot 11 is delivered.
     let word = Some(0x8000_0000);
-    let done = fed(&rt, alloc, &world, first, second, 11, 4)?;
-    check_port(&rt, &world, &done.tile, 1, (word, None, 0, 8));
-    let done = fed(&rt, alloc, &world, first, second, 14, 4)?;
-    check_port(&rt, &world, &done.tile, 1, (word, Some(11), 1, 8));
-    assert!(rt; done.sent.is_none());
-    assert_eq!(rt; done.tile.carried(0), 0);
+    check_after(&rt, alloc, &world, None, 11, (word, None, 0, 8), None)?;
+    check_after(&rt, alloc, &world, None, 14, (word, Some(11), 1, 8), None)?;
     // The flit is put on output 0 in slot 14, for slot 15.
-    let done = fed(&rt, alloc, &world, first, second, 15, 4)?;
-    check_port(&rt, &world, &done.tile, 1, (None, Some(11), 1, 7));
-    check_port(&rt, &world, &done.tile, 0, (None, None, 0, 0));
-    let Some((slot, flit)) = done.sent else {
-        panic!(rt; "nothing was sent");
-    };
-    assert_eq!(rt; (slot, flit.word, flit.credits), (14, word, 0));
-    assert_eq!(rt; (done.tile.carried(0), done.tile.carried(1)), (1, 0));
+    let held = (None, Some(11), 1, 7);
+    check_after(&rt, alloc, &world, None, 15, held, Some((14, word)))?;
     // A part that leaves in slot 14 sends nothing then, and its port has no credit.
-    let first = granted(FIRST, 0, Some(14));
-    let done = fed(&rt, alloc, &world, first, second, 20, 4)?;
-    check_port(&rt, &world, &done.tile, 1, (None, None, 0, 0));
-    assert!(rt; done.sent.is_none());
+    let held = (None, None, 0, 0);
+    check_after(&rt, alloc, &world, Some(14), 20, held, None)?;
     Ok(())
 }

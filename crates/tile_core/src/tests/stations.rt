@@ -53,12 +53,14 @@ fn build_for<A: Abort>(
 ) -> Result<Built, Fail>
     requires sound { IsSoundCatalog world.now }
     requires two { length world.now.catalog ≡ 2 }
-    requires labels { (first.label ≡ record { session = 1; load = 1 }) × (second.label ≡ record { session = 1; load = 2 }) }
+    requires labels { (first.label ≡ record { session = 1; load = 1 })
+        × (second.label ≡ record { session = 1; load = 2 }) }
     requires bundles { (first.bundle ≡ 0) × (second.bundle ≡ 1) }
     requires begins { IfSome first.end (λ end. first.start ≤ end) }
     requires follows { IfSome second.end (λ end. second.start ≤ end) }
     requires bounded { horizon * world.now.platform.slot_cycles ≤ LAST_CYCLE }
-    ensures { IfOk result (λ built. All (λ station. IsUnderway world.now built.schedule station.tile) built.stations.items) }
+    ensures { IfOk result (λ built.
+        All (λ station. IsUnderway world.now built.schedule station.tile) built.stations.items) }
 {
     let loads = [FIRST, SECOND];
     let schedule = schedule(rt, alloc, world, first, second, horizon)?;
@@ -131,7 +133,8 @@ fn row(alloc: Global) -> Result<Platform, Fail> {
 // Stations of three tiles in a row.
 fn build_row<A: Abort>(rt: &A, alloc: Global, horizon: u64) -> Result<(World, Built), Fail>
     requires { horizon ≤ 1000 }
-    ensures { IfOk result (λ both. All (λ station. IsUnderway both.0 both.1.schedule station.tile) both.1.stations.items) }
+    ensures { IfOk result (λ both.
+        All (λ station. IsUnderway both.0 both.1.schedule station.tile) both.1.stations.items) }
 {
     let platform = row(alloc)?;
     let first = bundle(alloc, &platform, 0, 0)?;
@@ -142,20 +145,37 @@ fn build_row<A: Abort>(rt: &A, alloc: Global, horizon: u64) -> Result<(World, Bu
     Ok((world, built))
 }
 
+// Checks the tries of tiles in turn: each tile, and what `check_tries` takes.
+fn check_all_tries<A: Abort>(
+    rt: &A,
+    world: &World,
+    built: &mut Built,
+    cases: &[(usize, u64, Lack, (u64, u64))],
+)
+    requires { All (λ station. IsUnderway world.now built.old.schedule station.tile) built.old.stations.items }
+{
+    for &(tile, done, lack, counts) in cases {
+        check_tries(rt, world, built, tile, done, lack, counts);
+    }
+}
+
 #[test]
 fn lacks_what_is_judged_first(rt: HostRuntime) -> Result<(), Fail> {
     let (world, mut built) = build_row(&rt, rt.alloc(), 100)?;
     // A ring holds 64 flits, and the next one waits: a tile is 65 slots ahead. Tile 0 then lacks both a place
     // for its own and a flit of tile 2.
-    check_tries(&rt, &world, &mut built, 2, 65, Lack::Out(1), (66, 1));
-    check_tries(&rt, &world, &mut built, 0, 65, Lack::Out(0), (66, 1));
-    check_tries(&rt, &world, &mut built, 1, 65, Lack::In(0), (66, 1));
-    check_tries(&rt, &world, &mut built, 0, 0, Lack::In(1), (67, 2));
-    // The flit that waited goes over first.
-    check_tries(&rt, &world, &mut built, 2, 35, Lack::Fence, (102, 1));
-    check_tries(&rt, &world, &mut built, 0, 35, Lack::Fence, (103, 1));
-    check_tries(&rt, &world, &mut built, 1, 35, Lack::Fence, (102, 1));
-    check_tries(&rt, &world, &mut built, 1, 0, Lack::Fence, (103, 2));
+    let cases = [
+        (2, 65, Lack::Out(1), (66, 1)),
+        (0, 65, Lack::Out(0), (66, 1)),
+        (1, 65, Lack::In(0), (66, 1)),
+        (0, 0, Lack::In(1), (67, 2)),
+        // The flit that waited goes over first.
+        (2, 35, Lack::Fence, (102, 1)),
+        (0, 35, Lack::Fence, (103, 1)),
+        (1, 35, Lack::Fence, (102, 1)),
+        (1, 0, Lack::Fence, (103, 2)),
+    ];
+    check_all_tries(&rt, &world, &mut built, &cases);
     Ok(())
 }
 
@@ -163,9 +183,12 @@ fn lacks_what_is_judged_first(rt: HostRuntime) -> Result<(), Fail> {
 fn ends_at_the_horizon_before_all_else(rt: HostRuntime) -> Result<(), Fail> {
     let (world, mut built) = build_row(&rt, rt.alloc(), 65)?;
     // At slot 65 no place is left for tile 2's last flit, and none has come to tile 1.
-    check_tries(&rt, &world, &mut built, 2, 65, Lack::Fence, (66, 1));
-    check_tries(&rt, &world, &mut built, 0, 65, Lack::Fence, (66, 1));
-    check_tries(&rt, &world, &mut built, 1, 65, Lack::Fence, (66, 1));
+    let cases = [
+        (2, 65, Lack::Fence, (66, 1)),
+        (0, 65, Lack::Fence, (66, 1)),
+        (1, 65, Lack::Fence, (66, 1)),
+    ];
+    check_all_tries(&rt, &world, &mut built, &cases);
     Ok(())
 }
 
@@ -193,20 +216,32 @@ fn check_rounds<A: Abort>(rt: &A, world: &World, built: &mut Built, rounds: u64)
     }
 }
 
+// What a port holds, as `check_port` takes it.
+type Held = (Option<u32>, Option<u32>, u8, u8);
+
 // Checks port 1 of a tile, as `check_port` does.
-fn check_held<A: Abort>(
-    rt: &A,
-    world: &World,
-    built: &Built,
-    tile: usize,
-    held: (Option<u32>, Option<u32>, u8, u8),
-)
+fn check_held<A: Abort>(rt: &A, world: &World, built: &Built, tile: usize, held: Held)
     requires { All (λ station. IsUnderway world.now built.now.schedule station.tile) built.now.stations.items }
 {
     if tile >= built.stations.len() {
         panic!(rt; "no such tile");
     }
     check_port(rt, world, &built.stations[tile].tile, 1, held);
+}
+
+// Does so many rounds of each case, and checks then what port 1 of the case's tile holds.
+fn check_held_after<A: Abort>(
+    rt: &A,
+    world: &World,
+    built: &mut Built,
+    cases: &[(u64, usize, Held)],
+)
+    requires { All (λ station. IsUnderway world.now built.old.schedule station.tile) built.old.stations.items }
+{
+    for &(rounds, tile, held) in cases {
+        check_rounds(rt, world, built, rounds);
+        check_held(rt, world, built, tile, held);
+    }
 }
 
 #[test]
@@ -219,14 +254,13 @@ fn a_word_goes_over_in_each_direction(rt: HostRuntime) -> Result<(), Fail> {
     // Both parts put their word in slot 9. That of tile 1 is on its output in slot 10 and is delivered in slot
     // 11, that of tile 0 in slots 14 and 15.
     let word = Some(0x8000_0000);
-    check_rounds(&rt, &world, &mut built, 11);
-    check_held(&rt, &world, &built, 0, (word, None, 0, 8));
-    check_rounds(&rt, &world, &mut built, 1);
-    check_held(&rt, &world, &built, 0, (word, word, 1, 8));
-    check_rounds(&rt, &world, &mut built, 3);
-    check_held(&rt, &world, &built, 0, (None, word, 1, 7));
-    check_held(&rt, &world, &built, 1, (None, None, 0, 7));
-    check_rounds(&rt, &world, &mut built, 1);
-    check_held(&rt, &world, &built, 1, (None, word, 1, 7));
+    let cases = [
+        (11, 0, (word, None, 0, 8)),
+        (1, 0, (word, word, 1, 8)),
+        (3, 0, (None, word, 1, 7)),
+        (0, 1, (None, None, 0, 7)),
+        (1, 1, (None, word, 1, 7)),
+    ];
+    check_held_after(&rt, &world, &mut built, &cases);
     Ok(())
 }

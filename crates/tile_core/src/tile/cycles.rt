@@ -36,10 +36,14 @@ fn run(
     requires inside { IsInside memory.old part.now.region }
     requires own { AreOwn ports.old part.now.ports }
     requires bounded { cycle + count ≤ 2 ^ 64 }
-    ensures regs { regs.new ≡ (ran_in costs.now cycle count part.now regs.old left.old memory.old ports.old log.old).regs }
-    ensures left { left.new ≡ (ran_in costs.now cycle count part.now regs.old left.old memory.old ports.old log.old).left }
-    ensures memory { memory.new ≡ memory_ran costs.now cycle count part.now regs.old left.old memory.old ports.old log.old }
-    ensures ports { ports.new ≡ ports_ran costs.now cycle count part.now regs.old left.old memory.old ports.old log.old }
+    ensures regs { regs.new
+        ≡ (ran_in costs.now cycle count part.now regs.old left.old memory.old ports.old log.old).regs }
+    ensures left { left.new
+        ≡ (ran_in costs.now cycle count part.now regs.old left.old memory.old ports.old log.old).left }
+    ensures memory { memory.new
+        ≡ memory_ran costs.now cycle count part.now regs.old left.old memory.old ports.old log.old }
+    ensures ports { ports.new
+        ≡ ports_ran costs.now cycle count part.now regs.old left.old memory.old ports.old log.old }
     ensures log { log.new ≡ (ran_in costs.now cycle count part.now regs.old left.old memory.old ports.old log.old).log }
 {
     let place = Place {

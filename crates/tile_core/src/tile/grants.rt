@@ -26,7 +26,8 @@ impl Tile {
     ghost use Rattle.std.specs.Prelude.{true, IsTrue};
     ghost use Rattle.grant_tables.specs.Turns.{is_quiet};
     ghost use Rattle.tile_core.specs.Tile.{number_of};
-    ghost use Rattle.tile_core.specs.Slot.{removed, after_end, with_ends, installed, after_start, with_starts, with_grants};
+    ghost use Rattle.tile_core.specs.Slot.{removed, after_end, with_ends};
+    ghost use Rattle.tile_core.specs.Slot.{installed, after_start, with_starts, with_grants};
     ghost use Rattle.tile_core.specs.Fit.{IsUnderway};
     ghost use Rattle.tile_core.specs.inner.Ready.{HasPorts, CanLeave, CanCome, CanEnd, CanBegin, HasEnded};
 
@@ -34,7 +35,10 @@ impl Tile {
     fn reset_ports(&mut self, world: &World, part: &Part, credit: u8)
         requires ports { HasPorts world.now self.old part.now }
         requires credit { credit ≤ world.now.platform.queue }
-        ensures { self.new ≡ record self.old { ports = with_each (record { queue = world.now.platform.queue; port = empty_port credit }) part.now.ports self.old.ports } }
+        ensures { self.new ≡ record self.old {
+          ports = with_each (record { queue = world.now.platform.queue; port = empty_port credit })
+              part.now.ports self.old.ports;
+        } }
     {
         reset_each(
             self.ports.as_mut_slice(),

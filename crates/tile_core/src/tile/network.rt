@@ -43,7 +43,8 @@ fn count_flits(links: &[Flit; 7], carried: &mut [u64; 7])
 }
 
 impl Tile {
-    ghost use Rattle.tile_core.specs.Slot.{with_injection, injected_flit, with_cycles, traffic, with_delivery, with_traffic};
+    ghost use Rattle.tile_core.specs.Slot.{with_injection, injected_flit, with_cycles};
+    ghost use Rattle.tile_core.specs.Slot.{traffic, with_delivery, with_traffic};
     ghost use Rattle.tile_core.specs.inner.Ready.{IsSoundTile};
 
     // Lets the port inject that the tables name for the slot, and answers its flit: idle where they name none.

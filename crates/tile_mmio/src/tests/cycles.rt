@@ -2,12 +2,13 @@
 
 ghost use Rattle.std.specs.Prelude.{◌≡◌, ◌<◌, length};
 
-use super::{MAP, REGION, TRACES, deliver, ports, row, tile};
+use super::{MAP, REGION, TRACES, check_rows, deliver, ports, row, tile};
 use crate::run::PartOnTile;
 use ni_port::Port;
 use part_model::Place;
 use platform_model::{Costs, Platform};
 use rv_core::Regs;
+use std::process::Abort;
 use std::test::Fail;
 use tile_memory::TileMemory;
 use trace_log::{Kind, PartEnd, PartLog};
@@ -49,6 +50,11 @@ fn run(
     part.run(costs, place, u64::from(cycles.0), u64::from(cycles.1));
 }
 
+// Checks the cycles that are left and pc after a stretch of cycles.
+fn check_after(rt: &impl Abort, stretch: (u32, u32), after: (u8, u32), wanted: (u8, u32)) {
+    assert_eq!(rt; after, wanted, "after {} from {}", stretch.1, stretch.0);
+}
+
 #[test]
 fn runs_a_program(rt: HostRuntime) -> Result<(), Fail> {
     let platform = Platform::plain(rt.alloc())?;
@@ -78,8 +84,7 @@ fn runs_a_program(rt: HostRuntime) -> Result<(), Fail> {
             &mut ports,
             &mut log,
         );
-        assert_eq!(rt; left, cycles_left, "after {count} from {cycle}");
-        assert_eq!(rt; regs.pc, pc, "after {count} from {cycle}");
+        check_after(&rt, (cycle, count), (left, regs.pc), (cycles_left, pc));
     }
     let rows = [
         row(100, Kind::Step, 0),
@@ -88,7 +93,7 @@ fn runs_a_program(rt: HostRuntime) -> Result<(), Fail> {
         row(105, Kind::Step, 8),
         row(106, Kind::Step, 12),
     ];
-    assert_eq!(rt; log.rows(), rows.as_slice());
+    check_rows(&rt, &log, &rows);
     assert_eq!(rt; log.cut(), 0);
     let end = PartEnd::Halt {
         code: 0,
@@ -131,8 +136,7 @@ fn tries_a_full_queue_again(rt: HostRuntime) -> Result<(), Fail> {
             &mut ports,
             &mut log,
         );
-        assert_eq!(rt; left, cycles_left, "after {count} from {cycle}");
-        assert_eq!(rt; regs.pc, pc, "after {count} from {cycle}");
+        check_after(&rt, (cycle, count), (left, regs.pc), (cycles_left, pc));
     }
     let rows = [
         row(100, Kind::Step, 0),
@@ -142,6 +146,6 @@ fn tries_a_full_queue_again(rt: HostRuntime) -> Result<(), Fail> {
         row(112, Kind::Step, 8),
         row(113, Kind::Step, 12),
     ];
-    assert_eq!(rt; log.rows(), rows.as_slice());
+    check_rows(&rt, &log, &rows);
     Ok(())
 }

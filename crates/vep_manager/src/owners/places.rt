@@ -73,7 +73,7 @@ fn place(tiles: u8, resource: &Resource) -> usize
 }
 
 /// Answers the row of a resource among so many: that of its place on a platform of so many tiles. What
-/// lies outside shares row 0.
+/// lies outside shares row 0 with the spans of tile 0.
 pub fn row_number(tiles: u8, rows: usize, resource: &Resource) -> usize
     requires { 0 < rows }
     ensures row { result ≡ row_of tiles rows resource.now }

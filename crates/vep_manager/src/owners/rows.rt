@@ -37,8 +37,10 @@ impl Model for Rows {
 
     ghost use Rattle.vep_manager.specs.inner.Rows.{IsLaidOut, row_in};
 
+    /// The entries of each row, and how many it has room for.
     ghost view = { λ r. record { rows = map (row_in r.pool.items) r.heads.items; rooms = map (λ head. head.room) r.heads.items } };
 
+    /// The rows lie apart in the pool, each with no more entries than it has room for.
     ghost invariant = { λ r. IsLaidOut r.heads.items r.pool.items };
 }
 

@@ -4,7 +4,7 @@ ghost use Rattle.std.specs.Prelude.{◌≡◌, ◌≢◌, All, Contains, IsTrue,
 ghost use Rattle.vep_manager.specs.inner.Small.{IsSmallScript};
 
 use super::fixture::{File, setup, world_of};
-use super::runs::{load_script, slot, span};
+use super::runs::{load_script, span};
 use crate::granting::named_grant;
 use crate::{OwnerIndex, Setup};
 use bundle_model::{Grant, LoadName, Resource};
@@ -60,6 +60,66 @@ const SPANS: [(u32, u16, Option<u16>, Option<u16>); 16] = [
     (832, 2, None, None),
     (896, 1, None, None),
     (960, 0, None, None),
+];
+
+// Of spans of tile 0: the first byte, the length, a slot from which on they are asked for, and the place of
+// the first grant that holds one of their bytes then. The first ones touch several grants, the next ones lie
+// at the ends of `over`, and the last ones are empty or lie behind all grants.
+const SPANS_ASKED: [(u32, u32, u64, Option<u16>); 17] = [
+    (60, 8, 18, Some(8)),
+    (60, 8, 19, Some(9)),
+    (60, 8, 20, None),
+    (508, 8, 17, Some(7)),
+    (508, 8, 18, Some(15)),
+    (508, 8, 26, None),
+    (0, 1024, 0, Some(0)),
+    (0, 1024, 25, Some(15)),
+    (0, 1024, 26, Some(16)),
+    (95, 1, 20, None),
+    (96, 1, 20, Some(16)),
+    (159, 1, 20, Some(10)),
+    (159, 1, 21, Some(16)),
+    (160, 1, 21, None),
+    (100, 0, 0, None),
+    (1024, 64, 0, None),
+    (u32::MAX, u32::MAX, 0, None),
+];
+
+// The same of other resources. The last ones lie outside the platform.
+const OTHERS_ASKED: [(Resource, u64, Option<u16>); 11] = [
+    (Resource::Partition { tile: 0, slot: 0 }, 0, Some(0)),
+    (Resource::Partition { tile: 0, slot: 0 }, 11, Some(1)),
+    (Resource::Partition { tile: 0, slot: 0 }, 26, Some(16)),
+    (Resource::Partition { tile: 0, slot: 1 }, 0, None),
+    (Resource::Port { tile: 0, port: 0 }, 0, None),
+    (Resource::Inject { tile: 0, slot: 0 }, 0, None),
+    (Resource::Deliver { tile: 0, slot: 0 }, 0, None),
+    (
+        Resource::Span {
+            tile: 1,
+            base: 0,
+            len: 64,
+        },
+        0,
+        None,
+    ),
+    (Resource::LinkSlot { link: 0, slot: 0 }, 0, None),
+    (
+        Resource::LinkSlot {
+            link: 255,
+            slot: 255,
+        },
+        0,
+        None,
+    ),
+    (
+        Resource::Partition {
+            tile: 255,
+            slot: 255,
+        },
+        0,
+        None,
+    ),
 ];
 
 // Whether no grant has a label.
@@ -143,10 +203,13 @@ fn check_span<A: Abort>(
     assert_eq!(rt; index.first(&high, end + 1), last);
 }
 
-// Checks who is first to hold a resource from a slot on.
-fn check<A: Abort>(rt: &A, index: &OwnerIndex<'_>, asked: &[(Resource, u64, Option<u16>)]) {
-    for (resource, start, wanted) in asked {
-        assert_eq!(rt; index.first(resource, *start), *wanted);
+// Checks who is first to hold what the tables ask for.
+fn check_asked<A: Abort>(rt: &A, index: &OwnerIndex<'_>) {
+    for (base, len, start, wanted) in SPANS_ASKED {
+        assert_eq!(rt; index.first(&span(base, len), start), wanted);
+    }
+    for (resource, start, wanted) in OTHERS_ASKED {
+        assert_eq!(rt; index.first(&resource, start), wanted);
     }
 }
 
@@ -162,64 +225,6 @@ fn finds_the_first_owner(rt: HostRuntime) -> Result<(), Fail> {
     for row in SPANS {
         check_span(&rt, &index, row);
     }
-    let several = [
-        (span(60, 8), 18, Some(8)),
-        (span(60, 8), 19, Some(9)),
-        (span(60, 8), 20, None),
-        (span(508, 8), 17, Some(7)),
-        (span(508, 8), 18, Some(15)),
-        (span(508, 8), 26, None),
-        (span(0, 1024), 0, Some(0)),
-        (span(0, 1024), 25, Some(15)),
-        (span(0, 1024), 26, Some(16)),
-    ];
-    check(&rt, &index, &several);
-    let overlapping = [
-        (span(95, 1), 20, None),
-        (span(96, 1), 20, Some(16)),
-        (span(159, 1), 20, Some(10)),
-        (span(159, 1), 21, Some(16)),
-        (span(160, 1), 21, None),
-    ];
-    check(&rt, &index, &overlapping);
-    let other = [
-        (slot(0), 0, Some(0)),
-        (slot(0), 11, Some(1)),
-        (slot(0), 26, Some(16)),
-        (slot(1), 0, None),
-        (span(100, 0), 0, None),
-        (span(1024, 64), 0, None),
-        (span(u32::MAX, u32::MAX), 0, None),
-        (
-            Resource::Span {
-                tile: 1,
-                base: 0,
-                len: 64,
-            },
-            0,
-            None,
-        ),
-        (Resource::Port { tile: 0, port: 0 }, 0, None),
-        (Resource::Inject { tile: 0, slot: 0 }, 0, None),
-        (Resource::Deliver { tile: 0, slot: 0 }, 0, None),
-        (Resource::LinkSlot { link: 0, slot: 0 }, 0, None),
-        (
-            Resource::LinkSlot {
-                link: 255,
-                slot: 255,
-            },
-            0,
-            None,
-        ),
-        (
-            Resource::Partition {
-                tile: 255,
-                slot: 255,
-            },
-            0,
-            None,
-        ),
-    ];
-    check(&rt, &index, &other);
+    check_asked(&rt, &index);
     Ok(())
 }

@@ -4,7 +4,6 @@ use Rattle.vep_manager.specs.declared.reply.Entry.{Entry}
 use Rattle.vep_manager.specs.Manager.{ManagerState}
 use Rattle.vep_manager.specs.Legal.{IsComplete}
 use Rattle.serial_run.proofs.Laws.{can_finish}
-use Rattle.live_run.specs.inner.Hands.{gathered}
 use Rattle.live_run.specs.inner.Workers.{hand}
 use Rattle.live_run.proofs.Ending.{ready, scheduled, worked_long, step_long, in_step, gathered_by}
 use Rattle.live_run.proofs.run.live.Goals as goal

@@ -1,4 +1,4 @@
-use Rattle.std.proofs.Common.{rules, take, ap, ◌∙◌, sym, List, arith}
+use Rattle.std.proofs.Common.{rules, ap, ◌∙◌, sym, arith}
 use Rattle.std.specs.List.{flat_map}
 use Rattle.std.proofs.lemmas.List.{take_all}
 use Rattle.std.proofs.lemmas.List.Folds.{flat_map-map}
@@ -11,7 +11,7 @@ use Rattle.report_text.proofs.state.put_state.Goals as goal
 pub loop-station-preserved : goal.loop-station-preserved
 loop-station-preserved g c = (
   prints_item (λ (station : Station). tile_text c.args.platform.now station.tile) c.args.stations.now
-      c.loop-station.station-index _ _ _ _ _ _ _ _ _ _ (omega arith) c.station-item.is c.loop-station.invariant.0
+      c.loop-station.station-index _ (omega arith) c.station-item.is c.loop-station.invariant.0
       c.put_tile.ensures.printed,
   search rules,
 )

@@ -26,5 +26,6 @@ returns-clause-carried c =
           (λ none ring. (c.carry.ensures.past none ring).2)
           (λ some. none_by_count (sending out)
           (omega (arith, count, ahead, set, taken, latched_some (receiving into) some)))
-          (λ flit rest none ring. none_by_count (sending out) (omega (arith, count, ahead, set, taken, ap length ring)));
+          (λ flit rest none ring. none_by_count (sending out)
+          (omega (arith, count, ahead, set, taken, ap length ring)));
     }

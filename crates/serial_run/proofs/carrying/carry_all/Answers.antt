@@ -10,7 +10,8 @@ pub carry_link-requires : goal.carry_link-requires
 carry_link-requires c =
     let (seen, line, carried) = c.loop-number.invariant in
     let at = slice_get-get_or c.args.hops.now c.loop-number.number no_hop (omega arith) in
-    let Has = λ (states : List StationState). HasEnds (all_ends states) c.loop-number.number (get_or c.args.hops.now c.loop-number.number no_hop) in
+    let Has = λ (states : List StationState). HasEnds (all_ends states) c.loop-number.number
+    (get_or c.args.hops.now c.loop-number.number no_hop) in
     can_carry c.loop-number.stations c.loop-number.number _
     (subst Has (sym seen) (c.requires.ends c.loop-number.number _ at)) c.args.in_line
     (λ known. line known c.loop-number.number _ at)

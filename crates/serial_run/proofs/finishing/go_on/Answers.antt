@@ -10,6 +10,7 @@ loop-slot-preserved c =
       c.round.ensures.going,
       c.round.ensures.within c.args.until (omega arith) within,
       λ loads before. c.round.ensures.run loads (run loads before),
-      λ slot from below. subst Quiet c.as_slice-grants.ensures.value c.turn_from-turn.ensures slot (omega (arith, from)) below,
+      λ slot from below. subst Quiet c.as_slice-grants.ensures.value c.turn_from-turn.ensures slot
+          (omega (arith, from)) below,
       omega arith,
     )

@@ -15,25 +15,31 @@ carry_all-requires-clause-ends c =
     let going = c.requires.going in
     let Have = λ (ends : List Ends). AllHaveEnds ends c.args.hops.now in
     subst Have
-    (sym (zip_ends c.args.world.now c.args.schedule.now c.args.slot c.args.stations.now c.step_all.new.stations c.step_all.ensures))
-    (all_have_ends (all_ends (map station_state c.args.stations.now)) c.args.world.now.platform.links c.args.hops.now going.places going.as_many)
+    (sym (zip_ends c.args.world.now c.args.schedule.now c.args.slot c.args.stations.now c.step_all.new.stations
+    c.step_all.ensures))
+    (all_have_ends (all_ends (map station_state c.args.stations.now)) c.args.world.now.platform.links c.args.hops.now
+    going.places going.as_many)
 
 pub carry_all-requires-clause-line : goal.carry_all-requires-clause-line
 carry_all-requires-clause-line c = λ known.
-    zip_lines c.args.world.now c.args.schedule.now c.args.slot c.args.hops.now c.args.stations.now c.step_all.new.stations
+    zip_lines c.args.world.now c.args.schedule.now c.args.slot c.args.hops.now c.args.stations.now
+    c.step_all.new.stations
     c.step_all.ensures c.requires.going.carried
 
 pub returns-clause-going : goal.returns-clause-going
 returns-clause-going c =
-    round_going c.args.world.now c.args.schedule.now c.args.hops.now c.args.slot c.args.stations.now c.step_all.new.stations
+    round_going c.args.world.now c.args.schedule.now c.args.hops.now c.args.slot c.args.stations.now
+    c.step_all.new.stations
     c.carry_all.new.stations c.step_all.ensures c.carry_all.ensures.seen c.requires.going c.carry_all.ensures.carried
 
 pub returns-clause-run : goal.returns-clause-run
 returns-clause-run c =
-    round_runs c.args.world.now c.args.schedule.now c.args.hops.now c.args.slot c.args.stations.now c.step_all.new.stations
+    round_runs c.args.world.now c.args.schedule.now c.args.hops.now c.args.slot c.args.stations.now
+    c.step_all.new.stations
     c.carry_all.new.stations c.step_all.ensures c.carry_all.ensures.seen
 
 pub returns-clause-within : goal.returns-clause-within
 returns-clause-within c =
-    round_within c.args.world.now c.args.schedule.now c.args.hops.now c.args.slot c.args.stations.now c.step_all.new.stations
+    round_within c.args.world.now c.args.schedule.now c.args.hops.now c.args.slot c.args.stations.now
+    c.step_all.new.stations
     c.carry_all.new.stations c.step_all.ensures c.carry_all.ensures.seen

@@ -10,6 +10,7 @@ returns-then-at-slot c = record {
   lines = c.advance.ensures.lines;
   underway = c.advance.ensures.underway;
   run = c.advance.ensures.run;
-  at = ap (λ (tile : TileState). tile.at) c.advance.ensures.slot.tile ∙ slot_at c.args.world.now c.args.schedule.now.grants.items _ c.args.station.now.tile
+  at = ap (λ (tile : TileState). tile.at) c.advance.ensures.slot.tile
+      ∙ slot_at c.args.world.now c.args.schedule.now.grants.items _ c.args.station.now.tile
       ∙ sym (raised_once c.args.slot c.args.station.now.tile.at (omega arith));
 }

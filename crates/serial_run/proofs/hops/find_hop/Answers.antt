@@ -18,7 +18,8 @@ unwrap-requires c =
     ∙ get_or_from_slice_get c.args.stations.now c.args.link.from find.sender c.index-stations-from.result find.from in
     let outs = c.as_slice.ensures.value ∙ ap (λ (s : Station). s.outs.items) of in
     let Is = λ (place : Option ℕ). IsSome place in
-    subst Is (sym (c.place_out.ensures ∙ ap (λ (wires : List (Wire LinkOut)). position (is_out_of c.args.number) wires) outs))
+    subst Is (sym (c.place_out.ensures ∙ ap (λ (wires : List (Wire LinkOut)). position (is_out_of c.args.number)
+    wires) outs))
     (some_place (is_out_of c.args.number) find.sender.outs.items find.out find.out_is)
 
 pub bounds-stations-to : goal.bounds-stations-to
@@ -33,7 +34,8 @@ unwrap-requires-2 c =
     ∙ get_or_from_slice_get c.args.stations.now c.args.link.to find.receiver c.index-stations-to.result find.to in
     let ins = c.as_slice-2.ensures.value ∙ ap (λ (s : Station). s.ins.items) of in
     let Is = λ (place : Option ℕ). IsSome place in
-    subst Is (sym (c.place_in.ensures ∙ ap (λ (wires : List (Wire LinkIn)). position (is_in_of c.args.number) wires) ins))
+    subst Is (sym (c.place_in.ensures ∙ ap (λ (wires : List (Wire LinkIn)). position (is_in_of c.args.number)
+    wires) ins))
     (some_place (is_in_of c.args.number) find.receiver.ins.items find.input find.input_is)
 
 pub returns : goal.returns
@@ -43,21 +45,27 @@ returns c =
     let of_s = ap (λ tile. get_or stations tile c.index-stations-from.result) c.from-from.ensures
     ∙ get_or_from_slice_get stations c.args.link.from find.sender c.index-stations-from.result find.from in
     let outs = c.as_slice.ensures.value ∙ ap (λ (s : Station). s.outs.items) of_s in
-    let out_place = sym (c.place_out.ensures ∙ ap (λ (wires : List (Wire LinkOut)). position (is_out_of c.args.number) wires) outs) ∙ c.unwrap.ensures in
+    let out_place = sym (c.place_out.ensures
+    ∙ ap (λ (wires : List (Wire LinkOut)). position (is_out_of c.args.number) wires) outs) ∙ c.unwrap.ensures in
     let of_r = ap (λ tile. get_or stations tile c.index-stations-to.result) c.from-to.ensures
     ∙ get_or_from_slice_get stations c.args.link.to find.receiver c.index-stations-to.result find.to in
     let ins = c.as_slice-2.ensures.value ∙ ap (λ (s : Station). s.ins.items) of_r in
-    let in_place = sym (c.place_in.ensures ∙ ap (λ (wires : List (Wire LinkIn)). position (is_in_of c.args.number) wires) ins) ∙ c.unwrap-2.ensures in
-    let (out_at, out_is) = placed (is_out_of c.args.number) find.sender.outs.items find.out c.unwrap.result find.out_is out_place in
-    let (in_at, in_is) = placed (is_in_of c.args.number) find.receiver.ins.items find.input c.unwrap-2.result find.input_is in_place in
+    let in_place = sym (c.place_in.ensures ∙ ap
+    (λ (wires : List (Wire LinkIn)). position (is_in_of c.args.number) wires) ins) ∙ c.unwrap-2.ensures in
+    let (out_at, out_is) = placed (is_out_of c.args.number) find.sender.outs.items find.out c.unwrap.result
+    find.out_is out_place in
+    let (in_at, in_is) = placed (is_in_of c.args.number) find.receiver.ins.items find.input c.unwrap-2.result
+    find.input_is in_place in
     record {
       from = c.from-from.ensures;
       to = c.from-to.ensures;
       ends = record {
         out = but_flits (out_seen find.out);
         input = but_flits (in_seen find.input);
-        out_is = out_end_at stations c.from-from.result c.unwrap.result find.sender find.out (ap (slice_get stations) c.from-from.ensures ∙ find.from) out_at;
-        input_is = in_end_at stations c.from-to.result c.unwrap-2.result find.receiver find.input (ap (slice_get stations) c.from-to.ensures ∙ find.to) in_at;
+        out_is = out_end_at stations c.from-from.result c.unwrap.result find.sender find.out
+            (ap (slice_get stations) c.from-from.ensures ∙ find.from) out_at;
+        input_is = in_end_at stations c.from-to.result c.unwrap-2.result find.receiver find.input
+            (ap (slice_get stations) c.from-to.ensures ∙ find.to) in_at;
         out_link = eqb-true find.out.link c.args.number out_is;
         input_link = eqb-true find.input.link c.args.number in_is;
         ring = find.ends;

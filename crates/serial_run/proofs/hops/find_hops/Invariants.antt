@@ -10,4 +10,5 @@ abbrev pub invariant-loop-number : goal.invariant-loop-number
 invariant-loop-number l =
     (length l.hops ≡ MOST_LINKS)
     × ((number : ℕ) (link : Link) → number < l.number → slice_get l.links number ≡ Some link
-    → (hop : Hop) × (slice_get l.hops number ≡ Some hop) × IsHop (all_ends (map station_state l.stations)) number link hop)
+    → (hop : Hop) × (slice_get l.hops number ≡ Some hop)
+    × IsHop (all_ends (map station_state l.stations)) number link hop)

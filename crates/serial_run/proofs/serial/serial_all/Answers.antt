@@ -23,7 +23,8 @@ finish-requires c =
     let Ready = λ (stations : List Station). AreReadyToFinish setup c.copy_since.new.into stations in
     let built : Ready c.in_ok-stations.stations.items = record {
       run = rw (← c.as_slice.ensures) (c.in_ok-stations.ensures.run c.copy_since.new.into.grants.items);
-      low = fresh_low setup.world c.as_slice.result.now setup.budget c.in_ok-stations.stations.items c.in_ok-stations.ensures.fresh;
+      low = fresh_low setup.world c.as_slice.result.now setup.budget c.in_ok-stations.stations.items
+          c.in_ok-stations.ensures.fresh;
     } in
     can_finish setup c.commit_all.new.manager c.copy_since.new.into c.as_mut_slice.result.now c.requires (record {
       same = same;
@@ -34,7 +35,9 @@ finish-requires c =
     }) (subst Ready (sym c.as_mut_slice.ensures.value) built)
 
 -- the stations that are handed out are in step
-at_end : (c : goal.After-drop-schedule-2) → AreInStep c.args.setup.now.world c.args.setup.now.loads (grants_of c.args.setup.now c.from_vec.result) c.args.setup.now.budget c.from_vec-2.result
+at_end : (c : goal.After-drop-schedule-2)
+    → AreInStep c.args.setup.now.world c.args.setup.now.loads (grants_of c.args.setup.now c.from_vec.result)
+    c.args.setup.now.budget c.from_vec-2.result
 at_end c =
     let setup = c.args.setup.now in
     let same : c.commit_all.new.manager.setup ≡ setup =
@@ -45,8 +48,10 @@ at_end c =
     let Run = λ (stations : List Station). HaveRun setup.world setup.loads grants (map station_state stations) in
     let built : Run vec.items = rw (← c.as_slice.ensures) (c.in_ok-stations.ensures.run grants) in
     let written : c.from_vec-2.result ≡ new =
-    c.from_vec-2.ensures ∙ refilled vec.len new vec.items new refl (c.finish.auto.stations ∙ ap length c.as_mut_slice.ensures.value) vec.ok.0 in
-    ends_in_step setup c.commit_all.new.manager c.copy_since.new.into c.as_mut_slice.result.now new c.from_vec-2.result c.from_vec.result same
+    c.from_vec-2.ensures ∙ refilled vec.len new vec.items new refl
+    (c.finish.auto.stations ∙ ap length c.as_mut_slice.ensures.value) vec.ok.0 in
+    ends_in_step setup c.commit_all.new.manager c.copy_since.new.into c.as_mut_slice.result.now new
+    c.from_vec-2.result c.from_vec.result same
     c.copy_since.ensures.grants (c.from_vec.ensures ∙ c.into_history.ensures.history) written c.finish.ensures
     (subst Run (sym c.as_mut_slice.ensures.value) built)
 

@@ -1,4 +1,4 @@
-use Rattle.std.proofs.Common.{◌≡◌, List, ◌∙◌, sym, ap, subst, arith}
+use Rattle.std.proofs.Common.{◌≡◌, List, ◌∙◌, sym, ap, subst}
 use Rattle.vep_manager.specs.Manager.{ManagerState}
 use Rattle.tile_core.specs.declared.station.Station.{Station}
 use Rattle.serial_run.proofs.Ending.{AreReadyToFinish, can_finish, fresh_low}
@@ -18,7 +18,8 @@ try_tiles-requires g c =
       run = rw (← c.as_slice.ensures) (c.in_ok-stations.ensures.run schedule.grants.items);
       low = low;
     } in
-    up_to_horizon setup.world schedule setup.budget c.as_mut_slice-all.result.now (can_finish setup c.commit_all.new.manager schedule c.as_mut_slice-all.result.now c.requires (record {
+    up_to_horizon setup.world schedule setup.budget c.as_mut_slice-all.result.now
+    (can_finish setup c.commit_all.new.manager schedule c.as_mut_slice-all.result.now c.requires (record {
       same = same;
       legal = c.commit_all.ensures.rounds.legal;
       complete = c.commit_all.ensures.rounds.complete;

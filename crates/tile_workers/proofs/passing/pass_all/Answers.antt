@@ -23,6 +23,10 @@ loop-station-preserved g c =
     let x = c.station-item.result in
     let y = c.pass_one.new.station in
     elim c.if-pass_one.branch [
-      | then-pass_one w ↦ rw w.moved-is (more_went world schedule c.args.until at.moved c.pass_one.result at.station-index c.args.stations.now at.stations x y w.if-pass_one.true (omega arith) c.pass_one.ensures at.invariant)
-      | else-pass_one w ↦ rw w.moved-is (more_not world schedule c.args.until at.moved c.pass_one.result at.station-index c.args.stations.now at.stations x y w.if-pass_one.false (omega arith) c.pass_one.ensures at.invariant)
+      | then-pass_one w ↦
+          rw w.moved-is (more_went world schedule c.args.until at.moved c.pass_one.result at.station-index
+          c.args.stations.now at.stations x y w.if-pass_one.true (omega arith) c.pass_one.ensures at.invariant)
+      | else-pass_one w ↦
+          rw w.moved-is (more_not world schedule c.args.until at.moved c.pass_one.result at.station-index
+          c.args.stations.now at.stations x y w.if-pass_one.false (omega arith) c.pass_one.ensures at.invariant)
     ]

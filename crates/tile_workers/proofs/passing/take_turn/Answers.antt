@@ -10,16 +10,25 @@ pass_all-moved-requires g c =
     (turn_begins (g.F.Feed.setup c.args.feed.now) (g.F.Feed.setup c.refresh.new.self)
     (g.F.Feed.seen c.args.feed.now) (g.F.Feed.seen c.refresh.new.self) c.args.world.now c.args.until
     c.args.schedule.now c.refresh.new.into c.args.stations.now c.requires.sound c.requires.world c.requires.stands
-    told.setup told.begins told.legal (record { grants = told.grants; horizon = told.horizon })).1
+    (record {
+      same = told.setup;
+      begins = told.begins;
+      legal = told.legal;
+      whole = record { grants = told.grants; horizon = told.horizon };
+    })).1
 
 pub go_on-requires-clause-stands : goal.go_on-requires-clause-stands
 go_on-requires-clause-stands g c =
     let told = c.refresh.ensures in
     first_pass (g.F.Feed.setup c.args.feed.now) (g.F.Feed.setup c.refresh.new.self)
     (g.F.Feed.seen c.args.feed.now) (g.F.Feed.seen c.refresh.new.self) c.args.world.now c.args.until
-    c.args.schedule.now c.refresh.new.into c.args.stations.now c.pass_all-moved.new.stations c.requires.sound
-    c.requires.world c.requires.stands told.setup told.begins told.legal
-    (record { grants = told.grants; horizon = told.horizon }) c.pass_all-moved.ensures.each
+    c.args.schedule.now c.refresh.new.into c.args.stations.now c.requires.sound c.requires.world c.requires.stands
+    (record {
+      same = told.setup;
+      begins = told.begins;
+      legal = told.legal;
+      whole = record { grants = told.grants; horizon = told.horizon };
+    }) c.pass_all-moved.new.stations c.pass_all-moved.ensures.each
 
 pub returns-then-moved-clause-turn : goal.returns-then-moved-clause-turn
 returns-then-moved-clause-turn g c =
@@ -39,6 +48,10 @@ returns-else-moved-clause-stands g c =
     let told = c.refresh.ensures in
     first_pass (g.F.Feed.setup c.args.feed.now) (g.F.Feed.setup c.refresh.new.self)
     (g.F.Feed.seen c.args.feed.now) (g.F.Feed.seen c.refresh.new.self) c.args.world.now c.args.until
-    c.args.schedule.now c.refresh.new.into c.args.stations.now c.pass_all-moved.new.stations c.requires.sound
-    c.requires.world c.requires.stands told.setup told.begins told.legal
-    (record { grants = told.grants; horizon = told.horizon }) c.pass_all-moved.ensures.each
+    c.args.schedule.now c.refresh.new.into c.args.stations.now c.requires.sound c.requires.world c.requires.stands
+    (record {
+      same = told.setup;
+      begins = told.begins;
+      legal = told.legal;
+      whole = record { grants = told.grants; horizon = told.horizon };
+    }) c.pass_all-moved.new.stations c.pass_all-moved.ensures.each

@@ -16,7 +16,8 @@ loop-idle-init g c = record {
       c.args.schedule.now c.args.group.now.stations.items (g.F.Feed.turns c.args.feed.now) (record {
         legal = c.requires.legal;
         behind = c.requires.schedule;
-        run = all_unmap (HasRun c.args.world.now (g.F.Feed.setup c.args.feed.now).loads c.args.schedule.now.grants.items)
+        run = all_unmap
+            (HasRun c.args.world.now (g.F.Feed.setup c.args.feed.now).loads c.args.schedule.now.grants.items)
             station_state c.args.group.now.stations.items c.requires.run;
         within = c.requires.within;
       });
@@ -44,7 +45,8 @@ loop-idle-preserved-then-take_turn g c =
     let told = c.take_turn.ensures in
     let items = c.loop-idle.group.stations.items in
     let new = c.take_turn.new.stations in
-    let kept : take c.loop-idle.group.stations.len (new ++ drop (length new) items) ≡ new = grind (arith, common_steps) in
+    let kept : take c.loop-idle.group.stations.len (new ++ drop (length new) items) ≡ new =
+    grind (arith, common_steps) in
     record {
       same = told.setup ∙ c.loop-idle.invariant.same;
       kept = told.kept ∙ c.loop-idle.invariant.kept;
@@ -57,8 +59,8 @@ loop-idle-preserved-then-take_turn g c =
             begins = told.begins;
             whole = told.whole;
             turns = told.turns;
-            passes = subst (λ xs. IsTurnOf c.args.world.now c.take_turn.new.schedule c.args.until true xs new) c.deref_mut.ensures.value
-                c.if-take_turn.ensures.turn;
+            passes = subst (λ xs. IsTurnOf c.args.world.now c.take_turn.new.schedule c.args.until true xs new)
+                c.deref_mut.ensures.value c.if-take_turn.ensures.turn;
             stands = told.stands;
           }));
     }
@@ -68,7 +70,8 @@ loop-idle-preserved g c =
     let told = c.take_turn.ensures in
     let items = c.loop-idle.group.stations.items in
     let new = c.take_turn.new.stations in
-    let kept : take c.loop-idle.group.stations.len (new ++ drop (length new) items) ≡ new = grind (arith, common_steps) in
+    let kept : take c.loop-idle.group.stations.len (new ++ drop (length new) items) ≡ new =
+    grind (arith, common_steps) in
     let met : is_below c.args.until c.deref.result.now ≡ true =
     sym {b = is_below c.args.until c.deref.result.now} c.if-not-any_below.ensures in
     let below : is_below c.args.until items ≡ true = ap (is_below c.args.until) (sym c.deref.ensures.value) ∙ met in
@@ -85,8 +88,8 @@ loop-idle-preserved g c =
             begins = told.begins;
             whole = told.whole;
             turns = told.turns;
-            passes = subst (λ xs. IsTurnOf c.args.world.now c.take_turn.new.schedule c.args.until false xs new) c.deref_mut.ensures.value
-                c.if-take_turn.ensures.turn;
+            passes = subst (λ xs. IsTurnOf c.args.world.now c.take_turn.new.schedule c.args.until false xs new)
+                c.deref_mut.ensures.value c.if-take_turn.ensures.turn;
             stands = told.stands;
           }));
     }

@@ -1,4 +1,4 @@
-use Rattle.std.proofs.Common.{◌+◌, ◌%◌, map, ap, ◌∙◌, arith}
+use Rattle.std.proofs.Common.{◌+◌, ◌%◌, map, ap, ◌∙◌}
 use Rattle.toml.specs.Data.{table}
 use Rattle.toml.specs.View.{view}
 use Rattle.workload.specs.Documents.{link_table}
@@ -8,4 +8,4 @@ use Rattle.workload.proofs.platform.push_onward.Goals as goal
 pub loop-tile-preserved : goal.loop-tile-preserved
 loop-tile-preserved c =
     ap (map view) c.in_ok-push.ensures.items
-    ∙ mapped_more view (λ tile. table (link_table tile ((tile + 1) % 16) 0)) _ _ _ 0 c.loop-tile.tile c.loop-tile.tile _ c.loop-tile.invariant c.in_ok-link.ensures (omega arith) (omega arith)
+    ∙ mapped_more view (λ tile. table (link_table tile ((tile + 1) % 16) 0)) _ _ _ c.loop-tile.tile c.loop-tile.invariant c.in_ok-link.ensures

@@ -6,6 +6,6 @@ use Rattle.report_text.proofs.state.port_lines.put_received.Goals as goal
 pub loop-place-preserved : goal.loop-place-preserved
 loop-place-preserved g c = (
   prints_found (queued_line (codes "recvword") c.args.tile c.args.number) c.args.port.now.port.recv c.loop-place.place
-      _ _ _ _ _ _ _ _ _ (omega arith) c.loop-place.invariant.0 (rw c.recv_word.ensures at c.put_queued.ensures.printed),
+      (omega arith) c.loop-place.invariant.0 (rw c.recv_word.ensures at c.put_queued.ensures.printed),
   search rules,
 )

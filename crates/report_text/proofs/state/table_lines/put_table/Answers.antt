@@ -5,6 +5,6 @@ use Rattle.report_text.proofs.state.table_lines.put_table.Goals as goal
 
 pub loop-slot-preserved : goal.loop-slot-preserved
 loop-slot-preserved g c = (
-  prints_number (place_text c.args.tile.now c.args.table c.args.row) c.loop-slot.slot _ _ _ _ _ _ _ _ _ c.loop-slot.invariant.0 c.put_place.ensures.printed,
+  prints_number (place_text c.args.tile.now c.args.table c.args.row) c.loop-slot.slot c.loop-slot.invariant.0 c.put_place.ensures.printed,
   search rules,
 )

@@ -10,5 +10,6 @@ work-end-requires-clause-run c =
     let same : c.settle.new.manager.setup ≡ c.args.setup.now =
     c.settle.ensures.setup ∙ ap (λ (state : ManagerState). state.setup) c.in_ok-manager.ensures.made in
     let grants = c.copy_since.new.into.grants.items in
-    subst (λ (s : Setup). All (HasRun c.args.setup.now.world s.loads grants) (map station_state c.in_ok-group.group.stations.items))
-    (sym same) (c.in_ok-group.ensures.run grants)
+    let states = map station_state c.in_ok-group.group.stations.items in
+    subst (λ (s : Setup). All (HasRun c.args.setup.now.world s.loads grants) states) (sym same)
+    (c.in_ok-group.ensures.run grants)

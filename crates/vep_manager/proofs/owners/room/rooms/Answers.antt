@@ -1,12 +1,12 @@
-use Rattle.std.proofs.Common.{◌≡◌, ℕ, ◌+◌, ◌*◌, ◌<◌, ◌≤◌, List, ◌++◌, length, get_or, take, drop, ap, sym, subst, arith}
+use Rattle.std.proofs.Common.{◌≡◌, ℕ, ◌+◌, ◌*◌, ◌≤◌, List, ◌++◌, length, get_or, take, drop, ap, sym, subst, arith}
 use Rattle.std.specs.List.{All}
 use Rattle.std.proofs.lemmas.List.{get_or_default, with_items_is}
 use Rattle.bundle_model.specs.declared.resource.Resource.{Resource}
 use Rattle.bundle_model.specs.declared.world.LoadName.{LoadName}
 use Rattle.bundle_model.specs.declared.world.World.{World}
 use Rattle.vep_manager.specs.inner.Claims.{claimed_at}
-use Rattle.vep_manager.specs.inner.Owned.{count_in, loads_in, row_count}
-use Rattle.vep_manager.proofs.Holding.{rooms_more, claimed_few}
+use Rattle.vep_manager.specs.inner.Owned.{row_count}
+use Rattle.vep_manager.proofs.Holding.{HaveRisen, AreCounted, rooms_more, claimed_few}
 use Rattle.vep_manager.proofs.SetupLemmas.{sound_world}
 use Rattle.vep_manager.proofs.owners.room.rooms.Goals as goal
 use Rattle.vep_manager.proofs.owners.room.rooms.Goals.{After-held_by, After-count_list}
@@ -24,7 +24,7 @@ pub count_list-requires-clause-low : goal.count_list-requires-clause-low
 count_list-requires-clause-low c = λ k d below.
     let few = few_here c in
     let low = subst (λ (l : List ℕ). All (λ count. count ≤ 4096 * c.loop-load.load-index) l)
-    (sym c.as_mut_slice.ensures.value) c.loop-load.invariant.1 k d below in
+    (sym c.as_mut_slice.ensures.value) c.loop-load.invariant.1.low k d below in
     let loads = (sound_world c.args.setup.now c.requires.sound).few in
     omega (arith, few, low, loads, c.loop-load-test.true, ap length c.as_slice-load-items.ensures)
 
@@ -49,12 +49,11 @@ loop-load-preserved c =
     let list : List Resource = h.held_by.result.now in
     let list_is : list ≡ claimed_at world load.bundle =
     h.held_by.ensures world h.requires.lists in
-    let counted = subst (λ (l : List ℕ). (n : ℕ) → n < length l
-    → get_or new n 0 ≡ get_or l n 0 + count_in world.platform.tiles (length l) n list) h.as_mut_slice.ensures.value
-    h.count_list.ensures.counted in
+    let tiles : ℕ = world.platform.tiles in
+    let risen = subst (λ (l : List ℕ). HaveRisen tiles list l new) h.as_mut_slice.ensures.value
+    (record { as_many = h.count_list.ensures.len; rose = h.count_list.ensures.counted }) in
     let more = rooms_more world loads index load old new list h.loop-load-test.true
-    (get_or_default loads index load no_load h.loop-load-test.true) list_is (few_here g) len counted
-    h.loop-load.invariant.1 h.loop-load.invariant.2 in
-    subst (λ (l : List ℕ). (length l ≡ row_count world.platform) × All (λ count. count ≤ 4096 * (index + 1)) l
-    × ((n : ℕ) → n < length l → get_or l n 0 ≡ loads_in world (length l) n (take (index + 1) loads))) (sym (new_is h))
-    (omega (arith, len, h.loop-load.invariant.0), more.0, more.1)
+    (get_or_default loads index load no_load h.loop-load-test.true) (record { claimed = list_is; few = few_here g }) risen
+    h.loop-load.invariant.1 in
+    subst (λ (l : List ℕ). (length l ≡ row_count world.platform) × AreCounted world loads (index + 1) l) (sym (new_is h))
+    (omega (arith, len, h.loop-load.invariant.0), more)
